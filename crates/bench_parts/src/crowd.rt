@@ -1,7 +1,8 @@
 //! Automata whose positions may all come after each other, but for the last one.
 
 use item_schema::{Column, Kind, Schema, are_columns};
-use predicate_cells::{CellStop, Cells, Pred, Preds};
+use predicate_cells::{CellStop, Cells};
+use predicates::{Pred, Preds};
 use rate_expr::{MAX_POSITIONS, Positions, Rate};
 use std::alloc::{AllocError, Global};
 use std::rc::Rc;

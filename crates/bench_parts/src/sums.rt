@@ -2,8 +2,9 @@
 //! cost without a query.
 
 use io_edge::{LazyFile, Line, Lines, Sink, Source, WriterSink, write_all};
-use item_schema::{Column, Item, ItemStop, Kind, Schema, are_columns, read_item};
+use item_schema::{Column, Item, Kind, Schema, are_columns};
 use language_base::Bytes;
+use line_reader::{ItemStop, read_item};
 use report_writer::{push_answer, push_skip};
 use std::alloc::{AllocError, Global};
 use std::io;

@@ -5,9 +5,10 @@ ghost use Rattle.cases_drawn.specs.Outcomes.{IsSame};
 use crate::stop::{Finding, Stop};
 use io_edge::{MemorySink, MemorySource};
 use query_cases::Case;
-use sqre_run::{Status, sqre};
+use sqre_run::sqre;
 use std::alloc::{AllocError, Global};
 use std::str;
+use stream_run::Status;
 
 /// More bytes than a call writes: the answers to some lines, each with the keys of all of them.
 const ROOM: usize = 1 << 23;

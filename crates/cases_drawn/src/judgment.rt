@@ -12,8 +12,8 @@ use crate::tally::Tally;
 use query_cases::Case;
 use query_model::Checked;
 use query_syntax::read_syntax;
-use sqre_run::Status;
 use std::alloc::Global;
+use stream_run::Status;
 use type_checker::check;
 
 /// How many bytes the first reads give, and the first writes take, in a run in pieces.

@@ -1,8 +1,9 @@
 //! The texts of the items of a stream.
 
-use item_schema::{Item, ItemStop, Schema, read_item};
-use sqre_run::Reply;
+use item_schema::{Item, Schema};
+use line_reader::{ItemStop, read_item};
 use std::alloc::{AllocError, Global};
+use stream_run::Reply;
 
 /// The different texts of the items so far.
 #[derive(Drop)]

@@ -1,15 +1,15 @@
 //! The answers of one engine to the items of a case.
 ghost use Rattle.std.specs.Prelude.{◌≡◌, ◌≤◌, ◌<◌, ◌+◌, ◌^◌, [], OnOk};
 ghost use Rattle.query_model.specs.Queries.{plain_of};
-ghost use Rattle.sqre_run.specs.Sessions.{IsReady};
+ghost use Rattle.stream_run.specs.Sessions.{IsReady};
 
 use crate::memory::Kept;
 use crate::texts::Texts;
 use io_edge::{Line, Lines, SteadySource};
 use query_model::{Checked, Follower};
 use report_writer::push_answer;
-use sqre_run::{Reply, Session};
 use std::alloc::{AllocError, Global};
+use stream_run::{Reply, Session};
 
 /// The most items that an engine is asked about, and the most lines on which they stand.
 const ITEMS: usize = 8;

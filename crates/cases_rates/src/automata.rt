@@ -3,7 +3,8 @@ ghost use Rattle.std.specs.Prelude.{◌≡◌, IfOk};
 
 use crate::scope::Scope;
 use crate::stop::Stop;
-use predicate_cells::{Cells, Preds};
+use predicate_cells::Cells;
+use predicates::Preds;
 use rate_expr::{MAX_POSITIONS, Positions, Rate};
 use std::alloc::{AllocError, Global};
 use std::rc::Rc;

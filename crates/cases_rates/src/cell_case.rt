@@ -7,7 +7,8 @@ use crate::items::Stream;
 use crate::scope::Scope;
 use crate::stop::Stop;
 use item_schema::Schema;
-use predicate_cells::{CellSet, Cells, Pred, Preds, holds};
+use predicate_cells::{CellSet, Cells};
+use predicates::{Pred, Preds, holds};
 use query_model::{Query, Shape};
 use std::alloc::{AllocError, Global};
 

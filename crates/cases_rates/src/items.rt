@@ -2,7 +2,8 @@
 
 use crate::scope::Scope;
 use crate::stop::Stop;
-use item_schema::{Item, Schema, read_item};
+use item_schema::{Item, Schema};
+use line_reader::read_item;
 use std::alloc::Global;
 use value_ops::{Field, Scalar, Value, ValueType};
 

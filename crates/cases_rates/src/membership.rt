@@ -2,7 +2,7 @@
 
 use crate::places::{PLACES, Places};
 use item_schema::Item;
-use predicate_cells::{Pred, holds};
+use predicates::{Pred, holds};
 use rate_expr::Rate;
 
 /// Whether the word, of at most six items, is in the rate.

@@ -2,7 +2,7 @@
 
 use crate::automata::positions_of;
 use crate::stop::Stop;
-use predicate_cells::Pred;
+use predicates::Pred;
 use rate_expr::{MAX_POSITIONS, Positions, Rate};
 use std::alloc::Global;
 

@@ -2,7 +2,7 @@
 
 use crate::scope::Scope;
 use crate::stop::Stop;
-use predicate_cells::Pred;
+use predicates::Pred;
 use query_syntax::{Connective, Equality, Literal, Name, Order, Predicate};
 use std::alloc::{AllocError, Global};
 

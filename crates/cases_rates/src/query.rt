@@ -4,12 +4,12 @@ use crate::predicate::pred_over;
 use crate::rate::rate_over;
 use crate::scope::Scope;
 use crate::stop::Stop;
-use predicate_cells::Pred;
+use expressions::{Expr, Var};
+use predicates::Pred;
 use query_model::{KeyColumns, Query, Shape, Span};
 use query_syntax::{Key, Name, Predicate};
 use rate_expr::Rate;
 use std::alloc::Global;
-use value_ops::{Expr, Var};
 
 #[cycle(query)]
 pub(crate) fn query_over(

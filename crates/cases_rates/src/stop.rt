@@ -1,6 +1,6 @@
 //! Why a table cannot be gone through.
 
-use item_schema::ItemStop;
+use line_reader::ItemStop;
 use predicate_cells::CellStop;
 use query_parser::ReadStop;
 use rate_equal::EqualStop;

@@ -2,7 +2,7 @@
 use Rattle.std.proofs.Common.{◌≡◌, ℕ, ◌∙◌, List, ◌++◌, drop, length, sym, ap, subst, arith}
 use Rattle.std.proofs.Common.{append_assoc, inl, inr}
 use Rattle.std.specs.List.{Contains}
-use Rattle.value_ops.specs.Expressions.{Expression}
+use Rattle.expressions.specs.Expressions.{Expression}
 use Rattle.item_schema.specs.declared.column.Column.{Column}
 use Rattle.rate_expr.specs.Language.{In}
 use Rattle.rate_expr.specs.Words.{Word, IsWordOf}

@@ -7,9 +7,9 @@ use Rattle.std.specs.List.{AllByRecursion}
 use Rattle.value_ops.specs.declared.field.Field.{Field}
 use Rattle.value_ops.specs.declared.value.Value.{Value}
 use Rattle.value_ops.specs.declared.value.ValueType.TheVariants.{Number}
-use Rattle.value_ops.specs.Expressions as expr
-use Rattle.value_ops.specs.Expressions.{Expression}
-use Rattle.value_ops.specs.Typing.{HasType, Types}
+use Rattle.expressions.specs.Expressions as expr
+use Rattle.expressions.specs.Expressions.{Expression}
+use Rattle.expressions.specs.Typing.{HasType, Types}
 use Rattle.item_schema.specs.declared.column.Column.{Column}
 use Rattle.rate_expr.specs.Language.{In}
 use Rattle.rate_expr.specs.Rates as rate

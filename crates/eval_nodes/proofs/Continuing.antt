@@ -3,7 +3,7 @@ use Rattle.std.proofs.Common.{◌≡◌, ℕ, ◌+◌, ◌∙◌, List, [], ◌�
 use Rattle.std.proofs.Common.{append-nil, ◌⊎◌, inl, inr}
 use Rattle.std.specs.Prelude.{ℤ}
 use Rattle.std.specs.List.{Contains}
-use Rattle.value_ops.specs.Expressions.{Expression}
+use Rattle.expressions.specs.Expressions.{Expression}
 use Rattle.item_schema.specs.declared.column.Column.{Column}
 use Rattle.rate_expr.specs.Language.{In}
 use Rattle.rate_expr.specs.Readings.{HasExtension}

@@ -3,8 +3,8 @@ use Rattle.std.proofs.Common.{◌≡◌, ◌≤◌, ℕ, ◌+◌, ◌∙◌, Lis
 use Rattle.std.proofs.Common.{subst, arith, ◌⊎◌, inl, inr}
 use Rattle.std.specs.Prelude.{ℤ}
 use Rattle.std.specs.List.{Contains}
-use Rattle.value_ops.specs.Expressions.{Expression}
-use Rattle.predicate_cells.specs.Predicates.{Predicate}
+use Rattle.expressions.specs.Expressions.{Expression}
+use Rattle.predicates.specs.Predicates.{Predicate}
 use Rattle.item_schema.specs.declared.column.Column.{Column}
 use Rattle.rate_expr.specs.Words.{Word, IsWordOf}
 use Rattle.query_model.specs.Bounds.{places_of}

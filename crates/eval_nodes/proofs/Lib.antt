@@ -1,15 +1,10 @@
 pub mod Alike
 pub mod Apart
 pub mod Chains
-pub mod Cleared
-pub mod Clearing
 pub mod CollectCopies
 pub mod CollectCopying
 pub mod CollectFew
 pub mod CollectLiving
-pub mod CopyParts
-pub mod Copying
-pub mod CountParts
 pub mod Entries
 pub mod Few
 pub mod Continuing

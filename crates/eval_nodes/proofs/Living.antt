@@ -6,8 +6,8 @@ use Rattle.std.specs.List.{list_any, Contains}
 use Rattle.std.proofs.lemmas.Bool.{eqb-true, eq-eqb}
 use Rattle.std.proofs.lemmas.Option.{none-some, same_Some}
 use Rattle.value_ops.specs.declared.value.Value.{Value}
-use Rattle.value_ops.specs.Expressions.{Expression}
-use Rattle.predicate_cells.specs.Predicates.{Predicate}
+use Rattle.expressions.specs.Expressions.{Expression}
+use Rattle.predicates.specs.Predicates.{Predicate}
 use Rattle.item_schema.specs.declared.column.Column.{Column}
 use Rattle.rate_expr.specs.Language.{In}
 use Rattle.rate_expr.specs.Rates as rate

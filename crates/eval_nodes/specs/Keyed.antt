@@ -2,8 +2,8 @@
 -- has for its key.
 use Rattle.std.specs.Prelude.{◌≡◌, ◌↔◌, ℕ, List, [], filter}
 use Rattle.std.specs.List.{AllZip, Contains}
-use Rattle.predicate_cells.specs.Predicates.{Predicate}
-use Rattle.predicate_cells.specs.Truth.{holds}
+use Rattle.predicates.specs.Predicates.{Predicate}
+use Rattle.predicates.specs.Truth.{holds}
 use Rattle.rate_expr.specs.Words.{Word}
 use Rattle.query_model.specs.Denotation.{keys_after, projection}
 use Rattle.map_collect.specs.Keys.{fallback_of, followers_of, names_of}

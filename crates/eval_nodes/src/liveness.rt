@@ -1,8 +1,8 @@
 //! Which starts are live.
 ghost use Rattle.std.specs.Prelude.{◌≡◌, ℕ, ℤ, Bool, List};
-ghost use Rattle.predicate_cells.specs.Predicates.{Predicate};
+ghost use Rattle.predicates.specs.Predicates.{Predicate};
 ghost use Rattle.rate_expr.specs.Rates as rates;
-ghost use Rattle.value_ops.specs.Expressions.{Expression};
+ghost use Rattle.expressions.specs.Expressions.{Expression};
 ghost use Rattle.query_model.specs.Queries.{Qre, apply, atom, choice, collect, combine, compose};
 ghost use Rattle.query_model.specs.Queries.{iter, plain_of, split};
 ghost use Rattle.eval_nodes.specs.Live.{is_outer, live_of};

@@ -7,9 +7,9 @@ use Rattle.query_model.specs.Following.{FitsNext}
 use Rattle.query_model.specs.Queries.{plain_of}
 use Rattle.query_model.specs.Rules.{HasNoCollect}
 use Rattle.eval_nodes.specs.Plain.{seen_of}
-use Rattle.eval_tree.specs.Feeds.{CanBegin}
-use Rattle.eval_tree.specs.Numbers.{BeginsNumbers, CarriesNumbers}
-use Rattle.eval_tree.proofs.NumberQueries.{read_numbers}
+use Rattle.step_laws.specs.Feeds.{CanBegin}
+use Rattle.step_laws.specs.Numbers.{BeginsNumbers, CarriesNumbers}
+use Rattle.step_laws.proofs.NumberQueries.{read_numbers}
 use Rattle.eval_runner.specs.declared.runner.Runner.{Runner}
 use Rattle.eval_runner.specs.Following.{columns_of, IsSoundly, position_of, query_of}
 use Rattle.eval_runner.proofs.RunnerSteps.{bare_sound, carry_next, renew_next}

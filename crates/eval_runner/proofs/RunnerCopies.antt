@@ -11,7 +11,7 @@ use Rattle.eval_nodes.specs.Counts.{size_of_runner, stored_in}
 use Rattle.eval_nodes.specs.Runners.{IsSoundOf, IsAt}
 use Rattle.eval_nodes.specs.Plain.{holding_of, seen_of}
 use Rattle.eval_nodes.specs.Sound.{IsSound, IsTyped}
-use Rattle.eval_tree.proofs.Copied.{copy_represents, copy_sound, copy_stored, size_same}
+use Rattle.step_laws.proofs.Copied.{copy_represents, copy_sound, copy_stored, size_same}
 
 pub copied_soundly : (columns : List Column) (q : Qre) (old new : Progress)
     → IsCopyOf seen_of (IsCopy seen_of q) old new → IsSoundOf seen_of columns q old

@@ -16,7 +16,7 @@ use Rattle.eval_nodes.specs.Runners.{IsSoundOf, IsAt}
 use Rattle.eval_nodes.specs.Plain.{seen_of}
 use Rattle.eval_nodes.proofs.Made.{composes_few}
 use Rattle.eval_nodes.proofs.Pieces.{word_join}
-use Rattle.eval_tree.specs.Feeds.{CanBegin, CanCarry, IsCarried, IsRenewed}
+use Rattle.step_laws.specs.Feeds.{CanBegin, CanCarry, IsCarried, IsRenewed}
 use Rattle.eval_runner.specs.declared.runner.Runner.{Runner}
 use Rattle.eval_runner.specs.Following.{columns_of, IsSoundly, query_of}
 

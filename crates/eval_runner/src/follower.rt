@@ -2,9 +2,12 @@
 
 use crate::Runner;
 use crate::initial_state::open;
-use eval_nodes::{Progress, copy_of_runner, has_no_collect, size_of_runner};
+use eval_nodes::Progress;
 use eval_tree::carry;
 use item_schema::Item;
+use new_nodes::has_no_collect;
+use node_copies::copy_of_runner;
+use node_counts::size_of_runner;
 use query_model::Follower;
 use std::alloc::{AllocError, Global};
 use std::mem::replace;

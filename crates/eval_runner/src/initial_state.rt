@@ -3,10 +3,12 @@ ghost use Rattle.std.specs.Prelude.{[], IfOk};
 ghost use Rattle.query_model.specs.Queries.{plain_of};
 ghost use Rattle.eval_nodes.specs.Runners.{IsAt};
 
-use eval_nodes::{Node, Progress, stream_cells};
-use eval_tree::{start, value_of};
+use eval_nodes::Progress;
+use eval_tree::start;
+use new_nodes::{new_node, stream_cells};
 use query_model::Checked;
 use std::alloc::{AllocError, Global};
+use step_laws::value_of;
 
 /// The runner's state before the first item.
 pub(crate) fn open(alloc: Global, checked: &Checked) -> Result<Progress, AllocError>
@@ -15,7 +17,7 @@ pub(crate) fn open(alloc: Global, checked: &Checked) -> Result<Progress, AllocEr
 {
     let query = checked.main();
     let cells = stream_cells(alloc, checked)?;
-    let mut node = Node::new(alloc, query, cells.as_ref())?;
+    let mut node = new_node(alloc, query, cells.as_ref())?;
     match start(query, &mut node, alloc, 0) {
         Ok(hit) => Ok(Progress {
             node,

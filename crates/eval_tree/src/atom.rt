@@ -1,26 +1,27 @@
 //! The calls of an atom: it keeps the start at the end of the word.
 ghost use Rattle.std.specs.Prelude.{◌≡◌, ℕ, None, Ok, IsOk, IfOk};
-ghost use Rattle.predicate_cells.specs.Plain as predicates;
-ghost use Rattle.predicate_cells.specs.Predicates.{Predicate};
-ghost use Rattle.value_ops.specs.Evaluation.{given};
-ghost use Rattle.value_ops.specs.Expressions as values;
-ghost use Rattle.value_ops.specs.Typing.{HasType, types_of};
+ghost use Rattle.predicates.specs.Plain as predicates;
+ghost use Rattle.predicates.specs.Predicates.{Predicate};
+ghost use Rattle.expressions.specs.Evaluation.{given};
+ghost use Rattle.expressions.specs.Expressions as values;
+ghost use Rattle.expressions.specs.Typing.{HasType, types_of};
 ghost use Rattle.value_ops.specs.declared.value.ValueType.{ValueType};
 ghost use Rattle.query_model.specs.Queries.{atom};
 ghost use Rattle.eval_nodes.specs.Plain.{holding_of, seen_of};
-ghost use Rattle.eval_tree.specs.Calls.{HasStarted, HasStepped, found_in};
-ghost use Rattle.eval_tree.specs.Lefts.{GivesNoTable, IsFound};
-ghost use Rattle.eval_tree.specs.Steps.{CanStart, CanStep};
+ghost use Rattle.step_laws.specs.Calls.{HasStarted, HasStepped, found_in};
+ghost use Rattle.step_laws.specs.Lefts.{GivesNoTable, IsFound};
+ghost use Rattle.step_laws.specs.Steps.{CanStart, CanStep};
 
-use crate::Hit;
 use eval_nodes::{Node, State};
+use expressions::Expr;
 use item_schema::Item;
-use predicate_cells::{Pred, holds};
+use predicates::{Pred, holds};
 use std::alloc::{AllocError, Global};
-use value_ops::{Expr, Field, Value};
+use step_laws::Hit;
+use value_ops::{Field, Value};
 
 /// An atom has no value on the empty word.
-#[tactic(auto, using(crate::proofs::Unsound::unlike_atom))]
+#[tactic(auto, using(step_laws::proofs::Unsound::unlike_atom))]
 #[inline(always)]
 pub(crate) fn start_atom(node: &mut Node, at: u64)
     requires { (pred : Predicate) × (expression : values.Expression)
@@ -37,7 +38,7 @@ pub(crate) fn start_atom(node: &mut Node, at: u64)
     }
 }
 
-#[tactic(auto, using(crate::proofs::Unsound::unlike_atom))]
+#[tactic(auto, using(step_laws::proofs::Unsound::unlike_atom))]
 #[inline(always)]
 pub(crate) fn step_atom(
     pred: &Pred,

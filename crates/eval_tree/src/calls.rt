@@ -1,15 +1,15 @@
 //! The calls by which a node follows a word.
 ghost use Rattle.query_model.specs.Queries.{plain_of};
 ghost use Rattle.eval_nodes.specs.Plain.{holding_of, seen_of};
-ghost use Rattle.eval_tree.specs.Calls.{HasStarted, HasStepped};
-ghost use Rattle.eval_tree.specs.Steps.{CanStart, CanStep};
+ghost use Rattle.step_laws.specs.Calls.{HasStarted, HasStepped};
+ghost use Rattle.step_laws.specs.Steps.{CanStart, CanStep};
 
-use crate::Hit;
 use crate::steps::{start_into, step_into};
 use eval_nodes::Node;
 use item_schema::Item;
 use query_model::Query;
 use std::alloc::{AllocError, Global};
+use step_laws::Hit;
 
 /// Adds the start at the end of the word, after `at` items.
 pub fn start(

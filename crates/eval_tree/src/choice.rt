@@ -2,19 +2,18 @@
 ghost use Rattle.std.specs.Prelude.{◌≡◌, None};
 ghost use Rattle.query_model.specs.Queries.{choice, plain_of};
 ghost use Rattle.eval_nodes.specs.Plain.{holding_of, seen_of};
-ghost use Rattle.eval_tree.specs.Calls.{HasStarted, HasStepped, found_in};
-ghost use Rattle.eval_tree.specs.Steps.{CanStart, CanStep};
+ghost use Rattle.step_laws.specs.Calls.{HasStarted, HasStepped, found_in};
+ghost use Rattle.step_laws.specs.Steps.{CanStart, CanStep};
 
-use crate::Hit;
-use crate::hit::put_if_none;
 use crate::steps::{start_into, step_into};
 use eval_nodes::{Node, State};
 use item_schema::Item;
 use query_model::Query;
 use std::alloc::{AllocError, Global};
+use step_laws::{Hit, put_if_none};
 
 #[cycle(step)]
-#[tactic(auto, using(crate::proofs::Unsound::unlike_choice))]
+#[tactic(auto, using(step_laws::proofs::Unsound::unlike_choice))]
 #[inline(always)]
 pub(crate) fn start_choice(
     first: &Query,
@@ -43,7 +42,7 @@ pub(crate) fn start_choice(
 }
 
 #[cycle(step)]
-#[tactic(auto, using(crate::proofs::Unsound::unlike_choice))]
+#[tactic(auto, using(step_laws::proofs::Unsound::unlike_choice))]
 #[inline(always)]
 pub(crate) fn step_choice(
     first: &Query,

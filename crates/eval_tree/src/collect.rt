@@ -1,17 +1,15 @@
 //! The calls of a collect, and its starts.
 ghost use Rattle.std.specs.Prelude.{◌≡◌, ◌↔◌, ℕ, List, None, IfOk, IsTrue};
-ghost use Rattle.predicate_cells.specs.Plain as predicates;
-ghost use Rattle.predicate_cells.specs.Predicates.{Predicate};
+ghost use Rattle.predicates.specs.Plain as predicates;
+ghost use Rattle.predicates.specs.Predicates.{Predicate};
 ghost use Rattle.rate_expr.specs.Rates as rates;
 ghost use Rattle.query_model.specs.Queries.{collect, plain_of};
 ghost use Rattle.eval_nodes.specs.Plain.{holding_of, seen_of};
-ghost use Rattle.eval_tree.specs.Calls.{HasStarted, HasStepped, found_in};
-ghost use Rattle.eval_tree.specs.Pushes.{AddsStart, ArePushed, BeginsAt, CanMake, CanPassBy};
-ghost use Rattle.eval_tree.specs.Pushes.{CanPushAll, CanTrack, IsNew, PassesBy};
-ghost use Rattle.eval_tree.specs.Steps.{CanStart, CanStep};
+ghost use Rattle.step_laws.specs.Calls.{HasStarted, HasStepped, found_in};
+ghost use Rattle.step_laws.specs.Pushes.{AddsStart, ArePushed, BeginsAt, CanMake, CanPassBy};
+ghost use Rattle.step_laws.specs.Pushes.{CanPushAll, CanTrack, IsNew, PassesBy};
+ghost use Rattle.step_laws.specs.Steps.{CanStart, CanStep};
 
-use crate::Hit;
-use crate::hit::value_of;
 use crate::keys::keys_push;
 use crate::steps::start_into;
 use crate::tables::{first_table, tabled};
@@ -19,13 +17,15 @@ use eval_nodes::{Node, Progress, State};
 use item_schema::Item;
 use joined_texts::Joined;
 use map_collect::{Keys, Tracks};
-use predicate_cells::Pred;
+use new_nodes::new_node;
+use predicates::Pred;
 use query_model::Query;
 use rate_expr::State as RateState;
 use std::alloc::{AllocError, Global};
+use step_laws::{Hit, value_of};
 
 #[cycle(step)]
-#[tactic(auto, using(crate::proofs::Unsound::unlike_collect))]
+#[tactic(auto, using(step_laws::proofs::Unsound::unlike_collect))]
 #[inline(always)]
 pub(crate) fn start_collect(
     inner: &Query,
@@ -48,7 +48,7 @@ pub(crate) fn start_collect(
 }
 
 #[cycle(step)]
-#[tactic(auto, using(crate::proofs::Unsound::unlike_collect))]
+#[tactic(auto, using(step_laws::proofs::Unsound::unlike_collect))]
 #[inline(always)]
 pub(crate) fn step_collect(
     inner: &Query,
@@ -186,7 +186,7 @@ fn new_runner(query: &Query, alloc: Global) -> Result<Progress, AllocError>
     requires { CanMake (plain_of query.now.shape) }
     ensures { IfOk result (IsNew seen_of (plain_of query.now.shape)) }
 {
-    let mut node = Node::new(alloc, query, None)?;
+    let mut node = new_node(alloc, query, None)?;
     let mut hit = None;
     match start_into(query, &mut node, alloc, 0, &mut hit) {
         Ok(()) => Ok(Progress {

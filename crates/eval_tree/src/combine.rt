@@ -1,22 +1,22 @@
 //! The calls of a combine: those of both operands, whose values are joined.
 ghost use Rattle.std.specs.Prelude.{◌≡◌, None};
-ghost use Rattle.value_ops.specs.Expressions as values;
+ghost use Rattle.expressions.specs.Expressions as values;
 ghost use Rattle.query_model.specs.Queries.{combine, plain_of};
 ghost use Rattle.eval_nodes.specs.Plain.{holding_of, seen_of};
-ghost use Rattle.eval_tree.specs.Calls.{HasStarted, HasStepped, found_in};
-ghost use Rattle.eval_tree.specs.Steps.{CanStart, CanStep};
+ghost use Rattle.step_laws.specs.Calls.{HasStarted, HasStepped, found_in};
+ghost use Rattle.step_laws.specs.Steps.{CanStart, CanStep};
 
-use crate::Hit;
 use crate::left_values::combine_with;
 use crate::steps::{start_into, step_into};
 use eval_nodes::{Node, State};
+use expressions::Expr;
 use item_schema::Item;
 use query_model::Query;
 use std::alloc::{AllocError, Global};
-use value_ops::Expr;
+use step_laws::Hit;
 
 #[cycle(step)]
-#[tactic(auto, using(crate::proofs::Unsound::unlike_combine))]
+#[tactic(auto, using(step_laws::proofs::Unsound::unlike_combine))]
 #[inline(always)]
 pub(crate) fn start_combine(
     first: &Query,
@@ -46,7 +46,7 @@ pub(crate) fn start_combine(
 }
 
 #[cycle(step)]
-#[tactic(auto, using(crate::proofs::Unsound::unlike_combine))]
+#[tactic(auto, using(step_laws::proofs::Unsound::unlike_combine))]
 #[inline(always)]
 pub(crate) fn step_combine(
     first: &Query,

@@ -4,10 +4,9 @@ ghost use Rattle.compose_eval.specs.Followers.{live_instances, retired};
 ghost use Rattle.query_model.specs.Queries.{compose, plain_of};
 ghost use Rattle.eval_nodes.specs.Live.{live_of};
 ghost use Rattle.eval_nodes.specs.Plain.{holding_of, seen_of};
-ghost use Rattle.eval_tree.specs.Calls.{HasStarted, HasStepped, found_in};
-ghost use Rattle.eval_tree.specs.Steps.{CanStart, CanStep};
+ghost use Rattle.step_laws.specs.Calls.{HasStarted, HasStepped, found_in};
+ghost use Rattle.step_laws.specs.Steps.{CanStart, CanStep};
 
-use crate::Hit;
 use crate::right_runners::{feed, pass_on};
 use crate::steps::{start_into, step_into};
 use compose_eval::Instances;
@@ -15,9 +14,10 @@ use eval_nodes::{Node, Progress, State, is_live};
 use item_schema::Item;
 use query_model::Query;
 use std::alloc::{AllocError, Global};
+use step_laws::Hit;
 
 #[cycle(step)]
-#[tactic(auto, using(crate::proofs::Unsound::unlike_compose))]
+#[tactic(auto, using(step_laws::proofs::Unsound::unlike_compose))]
 #[inline(always)]
 pub(crate) fn start_compose(
     first: &Query,
@@ -44,7 +44,7 @@ pub(crate) fn start_compose(
 }
 
 #[cycle(step)]
-#[tactic(auto, using(crate::proofs::Unsound::unlike_compose))]
+#[tactic(auto, using(step_laws::proofs::Unsound::unlike_compose))]
 pub(crate) fn step_compose(
     first: &Query,
     second: &Query,

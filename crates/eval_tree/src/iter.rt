@@ -1,28 +1,29 @@
 //! The calls of an iteration: values so far wait for a further piece.
 ghost use Rattle.std.specs.Prelude.{◌≡◌, ℤ, None, IfOk, IsOk};
 ghost use Rattle.split_eval.specs.Entries.{entry_at};
-ghost use Rattle.value_ops.specs.Expressions as values;
+ghost use Rattle.expressions.specs.Expressions as values;
 ghost use Rattle.value_ops.specs.Values.{IsNoTable};
 ghost use Rattle.query_model.specs.Queries.{iter, plain_of};
 ghost use Rattle.eval_nodes.specs.Plain.{holding_of, seen_of};
-ghost use Rattle.eval_tree.specs.Calls.{HasStarted, HasStepped, found_in};
-ghost use Rattle.eval_tree.specs.Numbers.{StartsNumbers};
-ghost use Rattle.eval_tree.specs.Operands.{Continues};
-ghost use Rattle.eval_tree.specs.Steps.{CanStart, CanStep};
+ghost use Rattle.step_laws.specs.Calls.{HasStarted, HasStepped, found_in};
+ghost use Rattle.step_laws.specs.Numbers.{StartsNumbers};
+ghost use Rattle.step_laws.specs.Operands.{Continues};
+ghost use Rattle.step_laws.specs.Steps.{CanStart, CanStep};
 
-use crate::Hit;
 use crate::operands::step_and_end;
 use crate::steps::start_only;
 use crate::values_so_far::{continue_from, continue_if_new};
 use eval_nodes::{Node, State, is_live};
+use expressions::Expr;
 use item_schema::Item;
 use iter_eval::Chain;
 use query_model::Query;
 use std::alloc::{AllocError, Global};
-use value_ops::{Expr, Value};
+use step_laws::Hit;
+use value_ops::Value;
 
 #[cycle(step)]
-#[tactic(auto, using(crate::proofs::Unsound::unlike_iter))]
+#[tactic(auto, using(step_laws::proofs::Unsound::unlike_iter))]
 #[inline(always)]
 pub(crate) fn start_iter(
     inner: &Query,
@@ -53,7 +54,7 @@ pub(crate) fn start_iter(
 }
 
 #[cycle(step)]
-#[tactic(auto, using(crate::proofs::Unsound::unlike_iter))]
+#[tactic(auto, using(step_laws::proofs::Unsound::unlike_iter))]
 #[inline(always)]
 pub(crate) fn step_iter(
     inner: &Query,

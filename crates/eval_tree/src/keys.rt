@@ -1,20 +1,21 @@
 //! The runners for keys, when an item goes by.
 ghost use Rattle.std.specs.Prelude.{◌≡◌, IfOk, OnErr, OnOk};
-ghost use Rattle.predicate_cells.specs.Plain as predicates;
+ghost use Rattle.predicates.specs.Plain as predicates;
 ghost use Rattle.query_model.specs.Keys.{key_of};
 ghost use Rattle.query_model.specs.Queries.{plain_of};
 ghost use Rattle.eval_nodes.specs.Plain.{seen_of};
-ghost use Rattle.eval_tree.specs.Collects.{CanPush, IsPushed};
-ghost use Rattle.eval_tree.specs.OutOfMemory.{IsKeyLeft, IsLeft};
-ghost use Rattle.eval_tree.specs.OwnKeys.{IsKeyAtHand};
-ghost use Rattle.eval_tree.specs.Pushes.{AllCarried, HasKey, IsKeyPushed};
+ghost use Rattle.step_laws.specs.Collects.{CanPush, IsPushed};
+ghost use Rattle.step_laws.specs.OutOfMemory.{IsKeyLeft, IsLeft};
+ghost use Rattle.step_laws.specs.OwnKeys.{IsKeyAtHand};
+ghost use Rattle.step_laws.specs.Pushes.{AllCarried, HasKey, IsKeyPushed};
 
 use crate::right_runners::carry;
-use eval_nodes::{Progress, copy_of_runner};
+use eval_nodes::Progress;
 use item_schema::Item;
 use joined_texts::Joined;
 use map_collect::Keys;
-use predicate_cells::{Pred, holds};
+use node_copies::copy_of_runner;
+use predicates::{Pred, holds};
 use query_model::{Query, join_texts, text_in};
 use std::alloc::{AllocError, Global};
 

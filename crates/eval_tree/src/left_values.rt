@@ -2,17 +2,18 @@
 ghost use Rattle.std.specs.Prelude.{◌≡◌, ◌<◌, ◌++◌, ◌∷◌, [], ℕ, Bool, None, Some, length, IfOk};
 ghost use Rattle.std.specs.Prelude.{IsOk};
 ghost use Rattle.std.specs.Option.{option_copied};
-ghost use Rattle.value_ops.specs.Expressions.{plain_of};
+ghost use Rattle.expressions.specs.Expressions.{plain_of};
 ghost use Rattle.split_eval.specs.Entries.{entry_at};
-ghost use Rattle.eval_tree.specs.Lefts.{AreCombined, AreNoTablesOnHits, AreNoTablesWith};
-ghost use Rattle.eval_tree.specs.Lefts.{AreTypedOnHits, AreTypedWith, IsApplied, IsEnded, IsJoined};
-ghost use Rattle.eval_tree.specs.Lefts.{IsNoTableOnBoth, IsNoTableOnHit, IsNoTableWith, IsPut};
-ghost use Rattle.eval_tree.specs.Lefts.{IsTypedOnBoth, IsTypedOnHit, IsTypedWith};
+ghost use Rattle.step_laws.specs.Lefts.{AreCombined, AreNoTablesOnHits, AreNoTablesWith};
+ghost use Rattle.step_laws.specs.Lefts.{AreTypedOnHits, AreTypedWith, IsApplied, IsEnded, IsJoined};
+ghost use Rattle.step_laws.specs.Lefts.{IsNoTableOnBoth, IsNoTableOnHit, IsNoTableWith, IsPut};
+ghost use Rattle.step_laws.specs.Lefts.{IsTypedOnBoth, IsTypedOnHit, IsTypedWith};
 
-use crate::Hit;
+use expressions::Expr;
 use split_eval::Pending;
 use std::alloc::{AllocError, Global};
-use value_ops::{Expr, Value};
+use step_laws::Hit;
+use value_ops::Value;
 
 /// The left value waits after its piece if this start is live. If the starts are apart
 /// (`AreApart`), there is room for it.

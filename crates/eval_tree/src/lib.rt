@@ -9,7 +9,6 @@ mod choice;
 mod collect;
 mod combine;
 mod compose;
-mod hit;
 mod iter;
 mod keys;
 mod left_values;
@@ -21,7 +20,6 @@ mod tables;
 mod values_so_far;
 
 pub use calls::{start, step};
-pub use hit::{Hit, value_of};
 pub use keys::keys_push;
 pub use right_runners::{carry, renew};
 pub use tables::keys_table;

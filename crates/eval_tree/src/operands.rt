@@ -1,20 +1,21 @@
 //! The calls of an operand whose value is joined with a left value.
 ghost use Rattle.std.specs.Prelude.{◌≡◌, None, IfOk, IsOk};
-ghost use Rattle.value_ops.specs.Expressions as values;
+ghost use Rattle.expressions.specs.Expressions as values;
 ghost use Rattle.query_model.specs.Queries.{plain_of};
 ghost use Rattle.eval_nodes.specs.Plain.{holding_of, seen_of};
-ghost use Rattle.eval_tree.specs.Operands.{CanEnd, CanJoin, EndsNumbers, HasEnded, HasJoined};
-ghost use Rattle.eval_tree.specs.Operands.{JoinsNumbers};
+ghost use Rattle.step_laws.specs.Operands.{CanEnd, CanJoin, EndsNumbers, HasEnded, HasJoined};
+ghost use Rattle.step_laws.specs.Operands.{JoinsNumbers};
 
-use crate::Hit;
 use crate::left_values::{end_waiting, join_to};
 use crate::steps::{start_into, step_into};
 use eval_nodes::Node;
+use expressions::Expr;
 use item_schema::Item;
 use query_model::Query;
 use split_eval::Pending;
 use std::alloc::{AllocError, Global};
-use value_ops::{Expr, Value};
+use step_laws::Hit;
+use value_ops::Value;
 
 /// Steps an operand whose value ends a whole, the left value of which has waited.
 #[cycle(step)]

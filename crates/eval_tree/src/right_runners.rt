@@ -3,19 +3,19 @@
 ghost use Rattle.std.specs.Prelude.{◌≡◌, IfOk, None, IsOk};
 ghost use Rattle.query_model.specs.Queries.{plain_of};
 ghost use Rattle.eval_nodes.specs.Plain.{seen_of};
-ghost use Rattle.eval_tree.specs.Feeds.{CanBegin, CanCarry, CanFeed, CanPassOn, Feeds, IsBegun};
-ghost use Rattle.eval_tree.specs.Feeds.{IsCarried, IsRenewed, IsDelivered, PassesOn, item_of};
-ghost use Rattle.eval_tree.specs.Numbers.{BeginsNumbers, CarriesNumbers, FeedsNumbers};
-ghost use Rattle.eval_tree.specs.Numbers.{PassesNumbers};
+ghost use Rattle.step_laws.specs.Feeds.{CanBegin, CanCarry, CanFeed, CanPassOn, Feeds, IsBegun};
+ghost use Rattle.step_laws.specs.Feeds.{IsCarried, IsRenewed, IsDelivered, PassesOn, item_of};
+ghost use Rattle.step_laws.specs.Numbers.{BeginsNumbers, CarriesNumbers, FeedsNumbers};
+ghost use Rattle.step_laws.specs.Numbers.{PassesNumbers};
 
-use crate::Hit;
-use crate::hit::put_answer;
 use crate::steps::{start_into, step_into};
 use compose_eval::Instances;
-use eval_nodes::{Progress, clear};
+use eval_nodes::Progress;
 use item_schema::{Item, Room};
+use node_copies::clear;
 use query_model::Query;
 use std::alloc::{AllocError, Global};
+use step_laws::{Hit, put_answer};
 use value_ops::{Field, Value};
 
 /// The last idle runner is emptied, takes the value of the hit if there is one, and is fed from the

@@ -2,31 +2,31 @@
 ghost use Rattle.std.specs.Prelude.{◌≡◌, None, Option, IfOk, IsOk};
 ghost use Rattle.std.specs.Option.{option_or};
 ghost use Rattle.split_eval.specs.Entries.{entry_at};
-ghost use Rattle.value_ops.specs.Expressions as values;
+ghost use Rattle.expressions.specs.Expressions as values;
 ghost use Rattle.query_model.specs.Queries.{plain_of, split};
 ghost use Rattle.eval_nodes.specs.Live.{live_of};
 ghost use Rattle.eval_nodes.specs.Plain.{holding_of, seen_of};
-ghost use Rattle.eval_tree.specs.Calls.{HasStarted, HasStepped, found_in};
-ghost use Rattle.eval_tree.specs.Lefts.{IsPut};
-ghost use Rattle.eval_tree.specs.Operands.{CanEnd, CanJoin, EndsNumbers, HasEnded, HasJoined};
-ghost use Rattle.eval_tree.specs.Operands.{JoinsNumbers, KeepsLive};
-ghost use Rattle.eval_tree.specs.Steps.{CanStart, CanStep};
-ghost use Rattle.eval_tree.specs.declared.hit.Hit.{Hit};
+ghost use Rattle.step_laws.specs.Calls.{HasStarted, HasStepped, found_in};
+ghost use Rattle.step_laws.specs.Lefts.{IsPut};
+ghost use Rattle.step_laws.specs.Operands.{CanEnd, CanJoin, EndsNumbers, HasEnded, HasJoined};
+ghost use Rattle.step_laws.specs.Operands.{JoinsNumbers, KeepsLive};
+ghost use Rattle.step_laws.specs.Steps.{CanStart, CanStep};
+ghost use Rattle.step_laws.specs.declared.hit.Hit.{Hit};
 
-use crate::Hit;
-use crate::hit::put_if_none;
 use crate::left_values::{wait, wait_if_new};
 use crate::operands::{start_and_join, step_and_end};
 use crate::steps::{start_into, step_into};
 use eval_nodes::{Node, State, is_live};
+use expressions::Expr;
 use item_schema::Item;
 use query_model::Query;
 use split_eval::Pending;
 use std::alloc::{AllocError, Global};
-use value_ops::{Expr, Value};
+use step_laws::{Hit, put_if_none};
+use value_ops::Value;
 
 #[cycle(step)]
-#[tactic(auto, using(crate::proofs::Unsound::unlike_split))]
+#[tactic(auto, using(step_laws::proofs::Unsound::unlike_split))]
 pub(crate) fn start_split(
     first: &Query,
     second: &Query,
@@ -61,7 +61,7 @@ pub(crate) fn start_split(
 }
 
 #[cycle(step)]
-#[tactic(auto, using(crate::proofs::Unsound::unlike_split))]
+#[tactic(auto, using(step_laws::proofs::Unsound::unlike_split))]
 pub(crate) fn step_split(
     first: &Query,
     second: &Query,

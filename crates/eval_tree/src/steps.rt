@@ -2,24 +2,23 @@
 ghost use Rattle.std.specs.Prelude.{◌≡◌, None, Option};
 ghost use Rattle.query_model.specs.Queries.{plain_of};
 ghost use Rattle.eval_nodes.specs.Plain.{holding_of, seen_of};
-ghost use Rattle.eval_tree.specs.Calls.{HasStarted, HasStepped, found_in};
-ghost use Rattle.eval_tree.specs.Steps.{CanStart, CanStep};
-ghost use Rattle.eval_tree.specs.declared.hit.Hit.{Hit};
+ghost use Rattle.step_laws.specs.Calls.{HasStarted, HasStepped, found_in};
+ghost use Rattle.step_laws.specs.Steps.{CanStart, CanStep};
+ghost use Rattle.step_laws.specs.declared.hit.Hit.{Hit};
 
-use crate::Hit;
 use crate::apply::{start_apply, step_apply};
 use crate::atom::{start_atom, step_atom};
 use crate::choice::{start_choice, step_choice};
 use crate::collect::{start_collect, step_collect};
 use crate::combine::{start_combine, step_combine};
 use crate::compose::{start_compose, step_compose};
-use crate::hit::put_number;
 use crate::iter::{start_iter, step_iter};
 use crate::split::{start_split, step_split};
 use eval_nodes::Node;
 use item_schema::Item;
 use query_model::{Query, Shape};
 use std::alloc::{AllocError, Global};
+use step_laws::{Hit, put_number};
 
 /// Adds the start at the end of the word, after `at` items.
 #[cycle(step)]

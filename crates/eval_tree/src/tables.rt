@@ -1,14 +1,14 @@
 //! The tables made of the answers of runners for keys.
 ghost use Rattle.std.specs.Prelude.{◌≡◌, IfOk};
 ghost use Rattle.eval_nodes.specs.Plain.{seen_of};
-ghost use Rattle.eval_tree.specs.Collects.{IsTableOf};
-ghost use Rattle.eval_tree.specs.Pushes.{IsFirstTable, IsTabled, scalar_of};
+ghost use Rattle.step_laws.specs.Collects.{IsTableOf};
+ghost use Rattle.step_laws.specs.Pushes.{IsFirstTable, IsTabled, scalar_of};
 
-use crate::Hit;
 use eval_nodes::Progress;
 use map_collect::{Keys, Tracks};
 use rate_expr::State;
 use std::alloc::{AllocError, Global};
+use step_laws::Hit;
 use value_ops::{Scalar, Table, Value};
 
 /// The table of the keys whose runners answer with a scalar.

@@ -2,11 +2,11 @@
 ghost use Rattle.std.specs.Prelude.{◌≡◌, None, IfOk, IsOk};
 ghost use Rattle.split_eval.specs.Entries.{entry_at};
 ghost use Rattle.value_ops.specs.Values.{IsNoTable};
-ghost use Rattle.eval_tree.specs.Lefts.{IsPut};
+ghost use Rattle.step_laws.specs.Lefts.{IsPut};
 
-use crate::Hit;
 use iter_eval::Chain;
 use std::alloc::{AllocError, Global};
+use step_laws::Hit;
 use value_ops::Value;
 
 /// The value so far waits at the end of its pieces if a further piece may come. If the starts are

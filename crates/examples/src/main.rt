@@ -2,10 +2,11 @@
 #![tactic(auto)]
 
 use io_edge::{LazyFile, Source, WriterSink};
-use sqre_run::{Status, sqre};
+use sqre_run::sqre;
 use std::alloc::{AllocError, Global};
 use std::fs::DirEntry;
 use std::{fs, io};
+use stream_run::Status;
 
 fn main(rt: HostRuntime) -> io::Result<()> {
     for name in folders(&rt)?.iter() {

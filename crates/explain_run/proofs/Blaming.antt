@@ -11,7 +11,7 @@ use Rattle.ambiguity_example.specs.declared.question.Ask.{Ask}
 use Rattle.drawn_example.specs.Drawings.{drawing, readers_of}
 use Rattle.type_checker.specs.Blames.{IsAskOf, IsBlameOf, ambiguity_of, refusal_of}
 use Rattle.type_checker.specs.declared.blame.Blame.{Blame}
-use Rattle.sqre_run.proofs.Shortest.{found_shortest}
+use Rattle.query_compiler.proofs.Shortest.{found_shortest}
 use Rattle.explain_run.specs.Blamed.{DrawsBlame}
 use Rattle.explain_run.specs.TwoReadings.{DrawsWhy}
 

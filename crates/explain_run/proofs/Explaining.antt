@@ -6,7 +6,7 @@ use Rattle.query_parser.specs.Reading.{IsFileOf, IsRefused}
 use Rattle.query_syntax.specs.Files.{program_terms}
 use Rattle.query_syntax.specs.Programs.{Program}
 use Rattle.explanation.specs.Explanations.{program_explanation, text_explanation}
-use Rattle.sqre_run.specs.Compiled.{judged, unread}
+use Rattle.query_compiler.specs.Compiled.{judged, unread}
 use Rattle.type_checker.specs.Blames.{IsBlameOf, refusal_of}
 use Rattle.type_checker.specs.Judged.{IsJudged, accepted, refused}
 use Rattle.type_checker.specs.declared.blame.Blame.{Blame}

@@ -1,7 +1,7 @@
 -- From what was reported of a text to what a call did.
 use Rattle.std.proofs.Common.{ℕ, List, Option}
 use Rattle.io_edge.specs.Taken.{TakesFirst}
-use Rattle.sqre_run.specs.QueryRead.{max_read}
+use Rattle.query_compiler.specs.QueryRead.{max_read}
 use Rattle.explain_run.specs.Call.{Outcome, Reported}
 use Rattle.explain_run.specs.declared.status.Status.{Status}
 use Rattle.explain_run.specs.declared.status.Status.TheVariants.{Accepted, Explained, QueryFault}

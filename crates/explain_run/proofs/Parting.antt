@@ -12,7 +12,7 @@ use Rattle.query_syntax.specs.Queries.{Query}
 use Rattle.query_syntax.specs.Spans.{query_span}
 use Rattle.separating_word.specs.Separations.{IsShortest, Separates}
 use Rattle.separating_word.specs.declared.separation.Separation.{Separation}
-use Rattle.sqre_run.specs.Compiled.{Compiles}
+use Rattle.query_compiler.specs.Compiled.{Compiles}
 use Rattle.type_checker.specs.Judged.{accepted}
 use Rattle.explain_run.specs.Apart.{SeparatesFrom, SeparatesMain, SeparatesOperands, SeparatesParts}
 

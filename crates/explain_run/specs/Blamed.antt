@@ -3,7 +3,7 @@ use Rattle.std.specs.Prelude.{◌≡◌, ℕ, List}
 use Rattle.language_base.specs.declared.rule.Rule.{Rule}
 use Rattle.ambiguity_example.specs.Shows.{Shown}
 use Rattle.drawn_example.specs.Drawings.{drawing, readers_of}
-use Rattle.sqre_run.specs.Stops.{IsShownFor}
+use Rattle.query_compiler.specs.Stops.{IsShownFor}
 use Rattle.type_checker.specs.Blames.{IsBlameAt}
 use Rattle.query_resolver.specs.Nodes.{Node}
 use Rattle.type_checker.specs.declared.blame.Blame.{Blame}

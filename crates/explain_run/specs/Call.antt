@@ -3,7 +3,7 @@ use Rattle.std.specs.Prelude.{◌≡◌, ℕ, List, Option}
 use Rattle.std.specs.Io.KnownBytes.{Appends}
 use Rattle.io_edge.specs.Taken.{TakesFewer, TakesFirst}
 use Rattle.io_edge.specs.Written.{AppendsSome}
-use Rattle.sqre_run.specs.QueryRead.{max_read}
+use Rattle.query_compiler.specs.QueryRead.{max_read}
 use Rattle.explain_run.specs.Explained.{Explains, IsAccepted}
 use Rattle.explain_run.specs.declared.status.Status.{Status}
 use Rattle.explain_run.specs.declared.status.Status.TheVariants.{Accepted, Explained, QueryFault}

@@ -6,7 +6,7 @@ use Rattle.query_parser.specs.Reading.{IsFileOf, IsRefused}
 use Rattle.query_syntax.specs.Files.{program_terms}
 use Rattle.query_syntax.specs.Programs.{Program}
 use Rattle.explanation.specs.Explanations.{program_explanation, text_explanation}
-use Rattle.sqre_run.specs.Compiled.{Compiles}
+use Rattle.query_compiler.specs.Compiled.{Compiles}
 use Rattle.type_checker.specs.Judged.{accepted, refused}
 use Rattle.explain_run.specs.Appended.{IsFound, found_text}
 use Rattle.explain_run.specs.declared.findings.Found.{Found}

@@ -3,7 +3,7 @@ ghost use Rattle.std.specs.Prelude.{◌≡◌, ◌≢◌, OnOk, MatchResult};
 ghost use Rattle.std.specs.Io.KnownBytes.{Appends};
 ghost use Rattle.io_edge.specs.Counts.{FailsByFault};
 ghost use Rattle.io_edge.specs.Written.{AppendsSome};
-ghost use Rattle.sqre_run.specs.Faults.{LeavesFlushed, ReportsFault};
+ghost use Rattle.io_edge.specs.Faults.{LeavesFlushed, ReportsFault};
 ghost use Rattle.explain_run.specs.Call.{Outcome, Reported};
 
 use crate::Status;

@@ -4,7 +4,7 @@ ghost use Rattle.query_model.specs.Monitors.{monitor_of};
 ghost use Rattle.query_parser.specs.Reading.{IsFileOf};
 ghost use Rattle.query_syntax.specs.Files.{program_terms};
 ghost use Rattle.query_syntax.specs.Plain.{plain_program};
-ghost use Rattle.sqre_run.specs.Compiled.{Compiles};
+ghost use Rattle.query_compiler.specs.Compiled.{Compiles};
 ghost use Rattle.type_checker.specs.Blames.{ForbidsTwoReadings};
 ghost use Rattle.type_checker.specs.Judged.{accepted};
 ghost use Rattle.explain_run.specs.Apart.{SeparatesFrom, SeparatesMain, SeparatesParts};

@@ -1,6 +1,6 @@
 //! A word that a refused query reads in two ways.
 ghost use Rattle.std.specs.Prelude.{IfOk};
-ghost use Rattle.sqre_run.specs.Stops.{IsBlamed};
+ghost use Rattle.query_compiler.specs.Stops.{IsBlamed};
 ghost use Rattle.explain_run.specs.Blamed.{DrawsBlame};
 
 use ambiguity_example::example;

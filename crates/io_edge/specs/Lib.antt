@@ -2,6 +2,7 @@ pub mod Answered
 pub mod Chunked
 pub mod Counts
 pub mod Ended
+pub mod Faults
 pub mod Kept
 pub mod Limits
 pub mod Lines

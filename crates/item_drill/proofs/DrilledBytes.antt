@@ -14,7 +14,7 @@ use Rattle.io_edge.proofs.OneList.{lines-only}
 use Rattle.language_base.specs.Limits.{max_columns}
 use Rattle.item_schema.specs.declared.column.Column.{Column}
 use Rattle.item_schema.specs.Layout.{Layout, has_digits, is_read}
-use Rattle.item_schema.proofs.Cuts.{All-none}
+use Rattle.line_reader.proofs.Cuts.{All-none}
 use Rattle.item_drill.specs.Draws.{drawn, state_after, next_state}
 use Rattle.item_drill.specs.Lines.{are_read, bytes_of, drill_bytes, header_of, line_from}
 use Rattle.item_drill.specs.Lines.{lines_from, names_of, row_of, texts_from}

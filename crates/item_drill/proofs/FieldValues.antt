@@ -15,14 +15,14 @@ use Rattle.std.proofs.lemmas.Fmt.{decimal_is_IsNumeral, length-decimal-le}
 use Rattle.std.proofs.lemmas.Int.{ints}
 use Rattle.std.proofs.lemmas.List.{length-append, length-replicate}
 use Rattle.std.proofs.lemmas.List.Folds.{list_all-append}
-use Rattle.item_schema.proofs.Numerals.{numeral_from_test, numeral_passes}
-use Rattle.item_schema.proofs.Sizes.{digits_value_after-append, digits_value_after-shift}
+use Rattle.line_reader.proofs.Numerals.{numeral_from_test, numeral_passes}
+use Rattle.line_reader.proofs.Sizes.{digits_value_after-append, digits_value_after-shift}
 use Rattle.item_schema.specs.declared.column.Kind.{Kind}
 use Rattle.item_schema.specs.declared.column.Kind.TheVariants.{Int, Fixed, Text, Number, Table}
 use Rattle.item_schema.specs.Layout.{has_digits, is_read}
-use Rattle.item_schema.specs.Written.{Sign, WritesDecimal, WritesWhole, Writes, sign_bytes}
-use Rattle.item_schema.specs.Written.{with_sign}
-use Rattle.item_schema.specs.Written.Sign.{Absent, Minus}
+use Rattle.line_reader.specs.Written.{Sign, WritesDecimal, WritesWhole, Writes, sign_bytes}
+use Rattle.line_reader.specs.Written.{with_sign}
+use Rattle.line_reader.specs.Written.Sign.{Absent, Minus}
 use Rattle.item_drill.specs.Fields.{field_of, field_text, fixed_text, in_digits, number_of}
 use Rattle.item_drill.proofs.FieldBytes.{number_is_small}
 

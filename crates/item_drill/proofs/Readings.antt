@@ -7,14 +7,14 @@ use Rattle.std.proofs.lemmas.Bool.Decides.{nat_tests}
 use Rattle.std.proofs.lemmas.List.Folds.{list_all-append}
 use Rattle.std.proofs.lemmas.List.Splits.{slice_split_at, slice_split_none}
 use Rattle.item_schema.specs.declared.column.Column.{Column}
-use Rattle.item_schema.specs.CutLines.{is_comma, mark, texts_in}
+use Rattle.line_reader.specs.CutLines.{is_comma, mark, texts_in}
 use Rattle.item_schema.specs.Layout.{has_digits, is_read}
-use Rattle.item_schema.specs.LineParts.{is_special}
-use Rattle.item_schema.specs.Reading.{fields_of, item_of}
-use Rattle.item_schema.proofs.Cuts.{All-none}
-use Rattle.item_schema.proofs.CutLines.{cut_item_of, strip_bom-none}
-use Rattle.item_schema.proofs.PlainLines.{no_break, plain_texts_in}
-use Rattle.item_schema.proofs.WrittenItems.{writes_field}
+use Rattle.line_reader.specs.LineParts.{is_special}
+use Rattle.line_reader.specs.Reading.{fields_of, item_of}
+use Rattle.line_reader.proofs.Cuts.{All-none}
+use Rattle.line_reader.proofs.CutLines.{cut_item_of, strip_bom-none}
+use Rattle.line_reader.proofs.PlainLines.{no_break, plain_texts_in}
+use Rattle.line_reader.proofs.WrittenItems.{writes_field}
 use Rattle.item_drill.specs.Draws.{drawn, next_state}
 use Rattle.item_drill.specs.Fields.{field_of, field_text}
 use Rattle.item_drill.specs.Lines.{are_read, item_from, line_from, row_of, texts_from}

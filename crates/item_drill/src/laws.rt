@@ -4,7 +4,7 @@ ghost use Rattle.std.specs.List.{AllByRecursion};
 ghost use Rattle.io_edge.specs.Lines.{NoLf, ended_by_lf, lines, text};
 ghost use Rattle.language_base.specs.Limits.{max_columns};
 ghost use Rattle.item_schema.specs.Layout.{Layout};
-ghost use Rattle.item_schema.specs.Reading.{item_of};
+ghost use Rattle.line_reader.specs.Reading.{item_of};
 ghost use Rattle.item_schema.specs.declared.column.Column.{Column};
 ghost use Rattle.item_drill.specs.Lines.{are_read, drill_bytes, header_of, item_from, line_from};
 ghost use Rattle.item_drill.specs.Lines.{lines_from, names_of};

@@ -11,8 +11,8 @@ use Rattle.std.proofs.lemmas.Bool.Decides.{nat_tests}
 use Rattle.std.proofs.lemmas.Fmt.{decimal_is_IsNumeral, length-decimal-le}
 use Rattle.std.proofs.lemmas.List.{length-append, length-replicate}
 use Rattle.std.proofs.lemmas.List.Folds.{list_all-append}
-use Rattle.item_schema.proofs.Numerals.{numeral_from_test, numeral_passes}
-use Rattle.item_schema.proofs.Sizes.{digits_value_after-append, digits_value_after-shift}
+use Rattle.line_reader.proofs.Numerals.{numeral_from_test, numeral_passes}
+use Rattle.line_reader.proofs.Sizes.{digits_value_after-append, digits_value_after-shift}
 use Rattle.item_lines.specs.Lines.{in_digits}
 
 -- one zero more after the others

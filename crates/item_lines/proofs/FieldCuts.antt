@@ -4,10 +4,10 @@ use Rattle.std.proofs.Common.{sym, ap, ◌∙◌, append_assoc, append-nil, arit
 use Rattle.std.specs.List.{flat_map, list_any}
 use Rattle.std.proofs.lemmas.Bool.{or_parts}
 use Rattle.std.proofs.lemmas.Bool.Decides.{nat_tests}
-use Rattle.item_schema.specs.CutLines.{ends_field, is_comma, is_quote, place_after, texts_at}
-use Rattle.item_schema.specs.CutLines.{texts_in}
-use Rattle.item_schema.proofs.FieldTexts.{begin_quoted, front_plain, texts_end, texts_more}
-use Rattle.item_schema.proofs.FieldTexts.{texts_none}
+use Rattle.line_reader.specs.CutLines.{ends_field, is_comma, is_quote, place_after, texts_at}
+use Rattle.line_reader.specs.CutLines.{texts_in}
+use Rattle.line_reader.proofs.FieldTexts.{begin_quoted, front_plain, texts_end, texts_more}
+use Rattle.line_reader.proofs.FieldTexts.{texts_none}
 use Rattle.item_lines.specs.Lines.{byte_text, is_delimiter, typed_text}
 
 -- The type of the places of a line, and two of them, which have no names outside of their crate.

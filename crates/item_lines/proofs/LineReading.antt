@@ -10,12 +10,12 @@ use Rattle.value_ops.specs.declared.field.Field.TheVariants as field
 use Rattle.item_schema.specs.declared.column.Column.{Column}
 use Rattle.item_schema.specs.declared.column.Kind.{Kind}
 use Rattle.item_schema.specs.declared.column.Kind.TheVariants.{Int, Fixed, Text, Number, Table}
-use Rattle.item_schema.specs.CutLines.{mark, texts_in}
+use Rattle.line_reader.specs.CutLines.{mark, texts_in}
 use Rattle.item_schema.specs.Items.{IsFieldOf, IsItemOf}
 use Rattle.item_schema.specs.Layout.{are_columns, are_distinct, has_digits, is_read}
-use Rattle.item_schema.specs.Reading.{fields_of, item_of}
-use Rattle.item_schema.proofs.CutLines.{cut_item_of, strip_bom-none}
-use Rattle.item_schema.proofs.WrittenItems.{writes_field}
+use Rattle.line_reader.specs.Reading.{fields_of, item_of}
+use Rattle.line_reader.proofs.CutLines.{cut_item_of, strip_bom-none}
+use Rattle.line_reader.proofs.WrittenItems.{writes_field}
 use Rattle.language_base.specs.Limits.{max_columns}
 use Rattle.item_lines.specs.Lines.{byte_text, field_text, is_delimiter, is_shown, line_of}
 use Rattle.item_lines.specs.Lines.{number_text, typed_text}

@@ -14,9 +14,9 @@ use Rattle.item_schema.specs.declared.column.Kind.{Kind}
 use Rattle.item_schema.specs.declared.column.Kind.TheVariants.{Int, Fixed, Text, Number, Table}
 use Rattle.item_schema.specs.Items.{IsFieldOf}
 use Rattle.item_schema.specs.Layout.{has_digits, is_read}
-use Rattle.item_schema.specs.Written.{Sign, WritesDecimal, WritesWhole, Writes, sign_bytes}
-use Rattle.item_schema.specs.Written.{with_sign}
-use Rattle.item_schema.specs.Written.Sign.{Absent, Minus}
+use Rattle.line_reader.specs.Written.{Sign, WritesDecimal, WritesWhole, Writes, sign_bytes}
+use Rattle.line_reader.specs.Written.{with_sign}
+use Rattle.line_reader.specs.Written.Sign.{Absent, Minus}
 use Rattle.item_lines.specs.Lines.{fixed_text, in_digits}
 use Rattle.item_lines.specs.RawTexts.{raw_text}
 use Rattle.item_lines.proofs.Digits.{in_digits_is, whole_and_rest}

@@ -9,7 +9,7 @@ use Rattle.std.proofs.lemmas.Bool.Decides.{nat_tests}
 use Rattle.std.proofs.lemmas.List.Folds.{list_any-append}
 use Rattle.std.proofs.lemmas.Str.{IsUtf8-from_is_utf8, encodes-chars, inside_one}
 use lib.Utf8.{encode, encodes}
-use Rattle.item_schema.specs.CutLines.{is_break}
+use Rattle.line_reader.specs.CutLines.{is_break}
 use Rattle.item_lines.specs.Lines.{is_plain, is_shown}
 
 -- none of the bytes ends a line

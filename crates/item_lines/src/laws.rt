@@ -3,7 +3,7 @@ ghost use Rattle.std.specs.Prelude.{◌≡◌, List, Ok, IsTrue};
 ghost use Rattle.value_ops.specs.declared.field.Field.{Field};
 ghost use Rattle.item_schema.specs.Items.{IsItemOf};
 ghost use Rattle.item_schema.specs.Layout.{are_columns};
-ghost use Rattle.item_schema.specs.Reading.{item_of};
+ghost use Rattle.line_reader.specs.Reading.{item_of};
 ghost use Rattle.item_schema.specs.declared.column.Column.{Column};
 ghost use Rattle.item_lines.specs.Lines.{is_shown, line_of};
 

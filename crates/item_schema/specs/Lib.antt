@@ -1,10 +1,3 @@
-pub mod CutLines
-pub mod Decimals
 pub mod Fields
 pub mod Items
 pub mod Layout
-pub mod LineParts
-pub mod Reading
-pub mod Skipped
-pub mod Texts
-pub mod Written

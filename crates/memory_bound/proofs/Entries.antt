@@ -6,17 +6,17 @@ use Rattle.std.specs.List.{Contains}
 use Rattle.std.specs.Set.{distinct_count}
 use Rattle.std.proofs.lemmas.List.Elements.{Contains-append_left, Contains-append_right}
 use Rattle.std.proofs.lemmas.Option.{none-some, same_Some}
-use Rattle.value_ops.specs.declared.expr.Var.{Var}
-use Rattle.value_ops.specs.declared.expr.Var.TheVariants as var
+use Rattle.expressions.specs.declared.expr.Var.{Var}
+use Rattle.expressions.specs.declared.expr.Var.TheVariants as var
 use Rattle.value_ops.specs.declared.field.Field.{Field}
 use Rattle.value_ops.specs.declared.field.Field.TheVariants as field
 use Rattle.value_ops.specs.declared.scalar.Scalar.{Scalar}
 use Rattle.value_ops.specs.declared.value.Value.{Value}
 use Rattle.value_ops.specs.declared.value.Value.TheVariants as value
-use Rattle.value_ops.specs.Evaluation.{Inputs, given, scalar_of, scalars_of, value_named, value_of}
-use Rattle.value_ops.specs.Evaluation.{value_of_field}
-use Rattle.value_ops.specs.Expressions.{Expression, literal, read, unary, binary, choice, sum}
-use Rattle.value_ops.specs.Expressions.{count, most, least, entry, rec, part}
+use Rattle.expressions.specs.Evaluation.{Inputs, given, scalar_of, scalars_of, value_named, value_of}
+use Rattle.value_ops.specs.Fields.{value_of_field}
+use Rattle.expressions.specs.Expressions.{Expression, literal, read, unary, binary, choice, sum}
+use Rattle.expressions.specs.Expressions.{count, most, least, entry, rec, part}
 use Rattle.item_schema.specs.declared.column.Column.{Column}
 use Rattle.item_schema.specs.Items.{fields_of_parts, fields_of_value}
 use Rattle.rate_expr.specs.Words.{Word, join}

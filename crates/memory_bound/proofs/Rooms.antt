@@ -1,7 +1,7 @@
 -- What is kept for a part of a query is a part of what is kept for the whole.
 use Rattle.std.proofs.Common.{◌≤◌, ℕ, ◌+◌, ◌*◌, arith, List}
 use Rattle.std.proofs.Math.Nat.{add-mul, mul-le-mul_left}
-use Rattle.predicate_cells.specs.Predicates.{Predicate}
+use Rattle.predicates.specs.Predicates.{Predicate}
 use Rattle.rate_expr.specs.Rates as rate
 use Rattle.rate_expr.specs.Rates.{size_of}
 use Rattle.query_model.specs.Bounds.{inner_of, places_of, width_of}

@@ -2,11 +2,11 @@
 ghost use Rattle.std.specs.Prelude.{◌≡◌, ◌-◌, ◌^◌, min};
 ghost use Rattle.query_model.specs.Bounds.{inner_of, places_of, slots_of, width_of, width_with};
 ghost use Rattle.query_model.specs.Queries.{plain_of};
-ghost use Rattle.value_ops.specs.Expressions as expr;
+ghost use Rattle.expressions.specs.Expressions as expr;
 
 use crate::demand::Demand;
+use expressions::{Expr, Var};
 use query_model::{Query, Shape};
-use value_ops::{Expr, Var};
 
 /// How many starts of the query may be live at one time, at most 2^32 - 1.
 pub fn places(query: &Query) -> u32

@@ -9,7 +9,7 @@ use Rattle.value_ops.specs.declared.field.Field.{Field}
 use Rattle.value_ops.specs.declared.field.Field.TheVariants as field
 use Rattle.item_schema.specs.Items.{IsItemOf}
 use Rattle.predicate_cells.specs.Cells.{Partition, IsIn, cell_of}
-use Rattle.predicate_cells.specs.Truth.{number_of, text_of}
+use Rattle.predicates.specs.Truth.{number_of, text_of}
 use Rattle.plain_items.specs.Becoming.{AreHalves, BecomesPlain, IsPut, StaysWith, number_field}
 use Rattle.plain_items.specs.Becoming.{with_sign}
 use Rattle.plain_items.specs.Plain.{plain_text}

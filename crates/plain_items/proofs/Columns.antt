@@ -7,7 +7,7 @@ use Rattle.value_ops.specs.declared.field.Field.{Field}
 use Rattle.item_schema.specs.declared.column.Column.{Column}
 use Rattle.item_schema.specs.Items.{IsItemOf}
 use Rattle.predicate_cells.specs.Cells.{Partition, IsIn}
-use Rattle.predicate_cells.specs.Truth.{number_of, text_of}
+use Rattle.predicates.specs.Truth.{number_of, text_of}
 use Rattle.plain_items.specs.Becoming.{BecomesPlain}
 use Rattle.plain_items.specs.Plain.{IsPlain, IsPlainAt}
 use Rattle.plain_items.proofs.Plainness.{plain_without}

@@ -12,7 +12,7 @@ use Rattle.item_schema.specs.declared.column.Kind.TheVariants.{Int, Fixed, Numbe
 use Rattle.item_schema.specs.Items.{IsFieldOf, IsItemOf}
 use Rattle.predicate_cells.specs.Cells.{cell_from}
 use Rattle.predicate_cells.specs.Classes.{class_of, number_class, starts}
-use Rattle.predicate_cells.specs.Predicates.{Predicate}
+use Rattle.predicates.specs.Predicates.{Predicate}
 use Rattle.predicate_cells.proofs.CellsBelow.{cell_from_below}
 use Rattle.predicate_cells.proofs.Counts.{count_by-le}
 use Rattle.predicate_cells.proofs.SameClass.{at_most}

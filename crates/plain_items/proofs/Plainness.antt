@@ -12,7 +12,7 @@ use Rattle.item_schema.specs.declared.column.Kind.{Kind}
 use Rattle.item_schema.specs.declared.column.Kind.TheVariants.{Int, Fixed, Text}
 use Rattle.item_schema.specs.Items.{IsFieldOf}
 use Rattle.predicate_cells.specs.Cells.{Partition, IsIn}
-use Rattle.predicate_cells.specs.Truth.{number_of, text_of, number_in, text_in}
+use Rattle.predicates.specs.Truth.{number_of, text_of, number_in, text_in}
 use Rattle.plain_items.specs.Becoming.{number_field}
 use Rattle.plain_items.specs.Plain.{IsPlainAt, plain_text}
 use Rattle.plain_items.specs.declared.replacement.Form.{Form}

@@ -2,7 +2,7 @@
 use Rattle.std.specs.Prelude.{◌≡◌, ◌≤◌, ℕ, ℤ, List, Some, codes, unsigned_abs}
 use Rattle.value_ops.specs.declared.field.Field.{Field}
 use Rattle.predicate_cells.specs.Cells.{Partition, IsIn}
-use Rattle.predicate_cells.specs.Truth.{number_in, text_in}
+use Rattle.predicates.specs.Truth.{number_in, text_in}
 
 -- the text that is shown if the cell does not need a certain one
 abbrev pub plain_text : List ℕ

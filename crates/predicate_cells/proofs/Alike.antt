@@ -7,10 +7,10 @@ use Rattle.std.specs.List.{AllByRecursion}
 use Rattle.std.specs.Str.{bytes_eq}
 use Rattle.value_ops.specs.declared.field.Field.{Field}
 use Rattle.predicate_cells.specs.Classes.{at_column, beginnings, named_texts, next}
-use Rattle.predicate_cells.specs.Predicates.{Predicate, any, eq, ne, lt, le, gt, ge, between}
-use Rattle.predicate_cells.specs.Predicates.{eq_text, ne_text, is_num, conjunction, disjunction}
-use Rattle.predicate_cells.specs.Predicates.{negation}
-use Rattle.predicate_cells.specs.Truth.{holds, passes, number_in, text_in}
+use Rattle.predicates.specs.Predicates.{Predicate, any, eq, ne, lt, le, gt, ge, between}
+use Rattle.predicates.specs.Predicates.{eq_text, ne_text, is_num, conjunction, disjunction}
+use Rattle.predicates.specs.Predicates.{negation}
+use Rattle.predicates.specs.Truth.{holds, passes, number_in, text_in}
 use Rattle.predicate_cells.proofs.AllMembers.{all_front, all_back}
 use Rattle.predicate_cells.proofs.IntTests.{int_eq_by_le, int_lt_by_le, int_le_by_le, int_gt_by_le}
 

@@ -14,8 +14,8 @@ use Rattle.value_ops.specs.Types.{IsScalar}
 use Rattle.item_schema.specs.Items.{IsFieldOf, IsItemOf}
 use Rattle.predicate_cells.specs.Cells.{Partition, CellsDecide, cell_from}
 use Rattle.predicate_cells.specs.Classes.{beginnings, named_texts, class_of, starts}
-use Rattle.predicate_cells.specs.Predicates.{Predicate}
-use Rattle.predicate_cells.specs.Truth.{number_of, text_of, number_in, text_in}
+use Rattle.predicates.specs.Predicates.{Predicate}
+use Rattle.predicates.specs.Truth.{number_of, text_of, number_in, text_in}
 use Rattle.predicate_cells.proofs.Alike.{NumbersAlike, TextsAlike, holds_alike}
 use Rattle.predicate_cells.proofs.AllMembers.{all_flat}
 use Rattle.predicate_cells.proofs.CellsBelow.{cell_from_below}

@@ -3,7 +3,7 @@ use Rattle.std.proofs.Common.{ℕ, ◌<◌, List}
 use Rattle.value_ops.specs.declared.field.Field.{Field}
 use Rattle.item_schema.specs.declared.column.Column.{Column}
 use Rattle.predicate_cells.specs.Cells.{Partition, cell_count, cell_of, cell_from, count_from}
-use Rattle.predicate_cells.specs.Predicates.{Predicate}
+use Rattle.predicates.specs.Predicates.{Predicate}
 use Rattle.predicate_cells.specs.Ranks.{ranks_from}
 use Rattle.predicate_cells.proofs.RanksBelow.{cells_positive, cell_in_below}
 use Rattle.predicate_cells.proofs.RanksOf.{cells_of_ranks, cell_of_ranks}

@@ -8,7 +8,7 @@ use Rattle.item_schema.specs.Items.{IsFieldOf, IsItemOf}
 use Rattle.predicate_cells.specs.Cells.{Partition, CellsHaveItems, IsIn, cell_count, cell_from}
 use Rattle.predicate_cells.specs.Cells.{count_from}
 use Rattle.predicate_cells.specs.Classes.{class_count, class_of}
-use Rattle.predicate_cells.specs.Predicates.{Predicate}
+use Rattle.predicates.specs.Predicates.{Predicate}
 use Rattle.predicate_cells.specs.Ranks.{ranks_from, field_by_kind, rising_starts, rising_texts}
 use Rattle.predicate_cells.specs.Samples.{sample_of}
 use Rattle.predicate_cells.proofs.CellsBelow.{count_positive}

@@ -10,10 +10,10 @@ use Rattle.item_schema.specs.Items.{IsItemOf}
 use Rattle.predicate_cells.specs.Cells.{Partition, cell_from, cell_of, cell_count, count_from}
 use Rattle.predicate_cells.specs.CellSets.{flagged_from}
 use Rattle.predicate_cells.specs.Marks.{Marks}
-use Rattle.predicate_cells.specs.Predicates.{Predicate}
+use Rattle.predicates.specs.Predicates.{Predicate}
 use Rattle.predicate_cells.specs.Ranks.{ranks_of, ranks_from, class_in}
 use Rattle.predicate_cells.specs.Samples.{samples}
-use Rattle.predicate_cells.specs.Truth.{holds}
+use Rattle.predicates.specs.Truth.{holds}
 use Rattle.predicate_cells.proofs.CellsAgree.{cells_decide}
 use Rattle.predicate_cells.proofs.CellsFilled.{field_of_class_is, class_of_field}
 use Rattle.predicate_cells.proofs.Flags.{flag_set, set_flag}

@@ -11,7 +11,7 @@ use Rattle.std.proofs.lemmas.List.Elements.{Contains-get_or}
 use Rattle.std.proofs.Math.Nat.{zero-add}
 use Rattle.std.proofs.lemmas.Map.Keys.{IsStrictlyIncreasing-from_sorted}
 use Rattle.predicate_cells.specs.CellSets.{flagged_from}
-use Rattle.predicate_cells.specs.Truth.{passes}
+use Rattle.predicates.specs.Truth.{passes}
 use Rattle.predicate_cells.proofs.AllMembers.{all_each}
 
 -- a member of a list is one of a longer list

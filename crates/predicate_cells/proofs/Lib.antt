@@ -10,7 +10,6 @@ pub mod Counts
 pub mod Deduped
 pub mod Flags
 pub mod IntTests
-pub mod Mapped
 pub mod MetOrNot
 pub mod PredTests
 pub mod RanksBelow

@@ -8,10 +8,10 @@ use Rattle.item_schema.specs.declared.column.Column.{Column}
 use Rattle.item_schema.specs.Items.{IsItemOf}
 use Rattle.predicate_cells.specs.Cells.{Partition, cell_count, cell_of}
 use Rattle.predicate_cells.specs.Met.{IsMet, IsUnmet}
-use Rattle.predicate_cells.specs.Predicates.{Predicate}
+use Rattle.predicates.specs.Predicates.{Predicate}
 use Rattle.predicate_cells.specs.Ranks.{ranks_from}
 use Rattle.predicate_cells.specs.Samples.{sample_of}
-use Rattle.predicate_cells.specs.Truth.{holds}
+use Rattle.predicates.specs.Truth.{holds}
 use Rattle.predicate_cells.proofs.CellsAgree.{cells_decide}
 use Rattle.predicate_cells.proofs.CellsBelow.{cell_below}
 use Rattle.predicate_cells.proofs.CellsFilled.{sample_in}

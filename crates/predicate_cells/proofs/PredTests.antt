@@ -1,9 +1,9 @@
 -- Which predicates in memory are tests of a column.
 use Rattle.std.proofs.Common.{◌≡◌, ℕ, ℤ, List, ◌⊎◌, inl, inr, refl}
-use Rattle.predicate_cells.specs.Plain.{plain_of}
-use Rattle.predicate_cells.specs.declared.pred.Pred.{Pred}
-use Rattle.predicate_cells.specs.declared.pred.Pred.TheVariants.{Eq, Ne, Lt, Le, Gt, Ge, Between}
-use Rattle.predicate_cells.specs.declared.pred.Pred.TheVariants.{EqText, NeText, IsNum}
+use Rattle.predicates.specs.Plain.{plain_of}
+use Rattle.predicates.specs.declared.pred.Pred.{Pred}
+use Rattle.predicates.specs.declared.pred.Pred.TheVariants.{Eq, Ne, Lt, Le, Gt, Ge, Between}
+use Rattle.predicates.specs.declared.pred.Pred.TheVariants.{EqText, NeText, IsNum}
 use Rattle.predicate_cells.proofs.TruthLists.{IsTest}
 
 -- each of these ten

@@ -20,8 +20,8 @@ use Rattle.predicate_cells.specs.Cells.{cell_from, count_from}
 use Rattle.value_ops.specs.Texts.{IsText, are_bytes}
 use Rattle.predicate_cells.specs.Classes.{beginnings, begins_class, named_texts, members}
 use Rattle.predicate_cells.specs.Classes.{class_count, class_of, starts}
-use Rattle.predicate_cells.specs.Fits.{is_number, is_text}
-use Rattle.predicate_cells.specs.Predicates.{Predicate}
+use Rattle.predicates.specs.Fits.{is_number, is_text}
+use Rattle.predicates.specs.Predicates.{Predicate}
 use Rattle.predicate_cells.specs.Ranks.{Ranks, cells_in, cell_in, ranks_from, count_by_kind}
 use Rattle.predicate_cells.specs.Ranks.{class_by_kind, rising_starts, rising_texts, number_rank}
 use Rattle.predicate_cells.specs.Ranks.{text_rank}

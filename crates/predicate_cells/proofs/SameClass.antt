@@ -13,7 +13,7 @@ use Rattle.std.proofs.lemmas.Slice.Eq.{bytes_eq-Decides}
 use Rattle.value_ops.specs.Texts.{IsText, are_bytes}
 use Rattle.predicate_cells.specs.Classes.{beginnings, named_texts, begins_class, starts, texts}
 use Rattle.predicate_cells.specs.Classes.{number_class, text_class}
-use Rattle.predicate_cells.specs.Predicates.{Predicate}
+use Rattle.predicates.specs.Predicates.{Predicate}
 use Rattle.predicate_cells.proofs.AllMembers.{all_filtered, all_members, all_found, all_each}
 use Rattle.predicate_cells.proofs.AllMembers.{all_any, all_both, none_passes}
 use Rattle.predicate_cells.proofs.Counts.{same_from_count, count_all}

@@ -7,11 +7,11 @@ use Rattle.std.specs.List.{zip}
 use Rattle.std.proofs.lemmas.List.{length-map, get_or-map}
 use Rattle.std.proofs.lemmas.Slice.Zip.{length-zip, get_or-zip}
 use Rattle.value_ops.specs.declared.field.Field.{Field}
-use Rattle.predicate_cells.specs.Predicates.{Predicate, any, eq, ne, lt, le, gt, ge, between}
-use Rattle.predicate_cells.specs.Predicates.{eq_text, ne_text, is_num, conjunction, disjunction}
-use Rattle.predicate_cells.specs.Predicates.{negation}
+use Rattle.predicates.specs.Predicates.{Predicate, any, eq, ne, lt, le, gt, ge, between}
+use Rattle.predicates.specs.Predicates.{eq_text, ne_text, is_num, conjunction, disjunction}
+use Rattle.predicates.specs.Predicates.{negation}
 use Rattle.predicate_cells.specs.Samples.{row_of, blank}
-use Rattle.predicate_cells.specs.Truth.{holds}
+use Rattle.predicates.specs.Truth.{holds}
 
 module _ (join : Bool → Bool → Bool) where
   -- a list is two joined ones where it is so at each place

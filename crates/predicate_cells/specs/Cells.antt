@@ -6,9 +6,9 @@ use Rattle.item_schema.specs.declared.column.Column.{Column}
 use Rattle.item_schema.specs.Items.{IsItemOf}
 use Rattle.item_schema.specs.Layout.{Layout}
 use Rattle.predicate_cells.specs.Classes.{class_count, class_of}
-use Rattle.predicate_cells.specs.Fits.{fits}
-use Rattle.predicate_cells.specs.Predicates.{Predicate}
-use Rattle.predicate_cells.specs.Truth.{holds}
+use Rattle.predicates.specs.Fits.{fits}
+use Rattle.predicates.specs.Predicates.{Predicate}
+use Rattle.predicates.specs.Truth.{holds}
 
 -- how many cells the columns from this one on make: the product of their numbers of classes
 abbrev pub count_from : ℕ → List Column → List Predicate → ℕ

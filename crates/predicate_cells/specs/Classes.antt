@@ -12,9 +12,9 @@ use Rattle.value_ops.specs.declared.scalar.Scalar.TheVariants as scalar
 use Rattle.value_ops.specs.declared.value.Value.TheVariants as value
 use Rattle.item_schema.specs.declared.column.Kind.{Kind}
 use Rattle.item_schema.specs.declared.column.Kind.TheVariants.{Int, Fixed, Text, Number, Table}
-use Rattle.predicate_cells.specs.Predicates.{Predicate, any, eq, ne, lt, le, gt, ge, between}
-use Rattle.predicate_cells.specs.Predicates.{eq_text, ne_text, is_num, conjunction, disjunction}
-use Rattle.predicate_cells.specs.Predicates.{negation}
+use Rattle.predicates.specs.Predicates.{Predicate, any, eq, ne, lt, le, gt, ge, between}
+use Rattle.predicates.specs.Predicates.{eq_text, ne_text, is_num, conjunction, disjunction}
+use Rattle.predicates.specs.Predicates.{negation}
 
 -- the list, if the test is one of the column, and else nothing
 abbrev pub at_column : {A : Type 0} → ℕ → ℕ → List A → List A

@@ -1,13 +1,8 @@
 pub mod CellSets
 pub mod Cells
 pub mod Classes
-pub mod Coding
-pub mod Fits
 pub mod Marks
 pub mod Met
-pub mod Plain
-pub mod Predicates
 pub mod Ranks
 pub mod Rising
 pub mod Samples
-pub mod Truth

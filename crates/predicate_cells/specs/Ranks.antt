@@ -16,8 +16,8 @@ use Rattle.item_schema.specs.declared.column.Column.{Column}
 use Rattle.item_schema.specs.declared.column.Kind.{Kind}
 use Rattle.item_schema.specs.declared.column.Kind.TheVariants.{Int, Fixed, Text, Number, Table}
 use Rattle.predicate_cells.specs.Classes.{beginnings, named_texts, begins_class}
-use Rattle.predicate_cells.specs.Fits.{is_number, is_text}
-use Rattle.predicate_cells.specs.Predicates.{Predicate}
+use Rattle.predicates.specs.Fits.{is_number, is_text}
+use Rattle.predicates.specs.Predicates.{Predicate}
 use Rattle.predicate_cells.specs.Rising.{rising}
 
 -- the kind of a column; where its classes of numbers begin, except for the first, and the texts

@@ -5,9 +5,9 @@ use Rattle.value_ops.specs.declared.field.Field.{Field}
 use Rattle.value_ops.specs.declared.field.Field.TheVariants as field
 use Rattle.value_ops.specs.declared.value.Value.TheVariants as value
 use Rattle.predicate_cells.specs.CellSets.{flagged_from}
-use Rattle.predicate_cells.specs.Predicates.{Predicate}
+use Rattle.predicates.specs.Predicates.{Predicate}
 use Rattle.predicate_cells.specs.Ranks.{Ranks, count_in, field_in, cells_in}
-use Rattle.predicate_cells.specs.Truth.{holds}
+use Rattle.predicates.specs.Truth.{holds}
 
 -- each list of fields, with a field of the class in front
 abbrev pub with_class : Ranks → List (List Field) → ℕ → List (List Field)

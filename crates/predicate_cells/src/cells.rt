@@ -4,14 +4,15 @@ ghost use Rattle.std.specs.List.{All, Contains};
 ghost use Rattle.std.specs.List.Sorted.{IsStrictlyIncreasing};
 ghost use Rattle.language_base.specs.Limits.{max_cells};
 ghost use Rattle.predicate_cells.specs.Marks.{Marks};
-ghost use Rattle.predicate_cells.specs.Plain.{plain_of};
+ghost use Rattle.predicates.specs.Plain.{plain_of};
 ghost use Rattle.predicate_cells.specs.Cells.{cell_count, cell_of, count_from, AllFit, IsIn};
 
 use crate::classes::Classes;
 use crate::columns::{cell_among, classes_of, copies_of, count_of, fields_of};
 use crate::masks::{masks_like, masks_of};
-use crate::{CellSet, CellStop, Pred, Preds};
+use crate::{CellSet, CellStop};
 use item_schema::{Item, Schema};
+use predicates::{Pred, Preds};
 use std::alloc::{AllocError, Global};
 use std::marker::Model;
 
@@ -32,7 +33,7 @@ impl Model for Cells {
     ghost use Rattle.std.specs.Prelude.{◌≡◌, ◌≤◌, map};
     ghost use Rattle.std.specs.Coded.{codes};
     ghost use Rattle.language_base.specs.Limits.{max_cells};
-    ghost use Rattle.predicate_cells.specs.Coding.{coded_predicate};
+    ghost use Rattle.predicates.specs.Coding.{coded_predicate};
     ghost use Rattle.predicate_cells.specs.Cells.{Partition, cell_count, AllFit};
     ghost use Rattle.predicate_cells.specs.Ranks.{ranks_from};
     ghost use Rattle.predicate_cells.specs.Samples.{mask_in};

@@ -3,7 +3,7 @@ ghost use Rattle.std.specs.Prelude.{◌<◌};
 ghost use Rattle.predicate_cells.specs.Ranks.{count_in};
 
 use crate::classes::Classes;
-use crate::row::Row;
+use predicates::Row;
 
 /// A row with a field of a class in one column, and without a number or a text in any other.
 #[derive(Clone, Copy)]

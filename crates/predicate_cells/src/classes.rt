@@ -5,17 +5,17 @@
 //!     class      0             | 1                 | 2                 | ...
 ghost use Rattle.std.specs.Prelude.{◌≡◌, ◌<◌, ◌≤◌, length, map, option_map, slice_index_or, true};
 ghost use Rattle.std.specs.Prelude.{Some, IfOk};
-ghost use Rattle.predicate_cells.specs.Fits.{is_text};
-ghost use Rattle.predicate_cells.specs.Plain.{plain_of};
+ghost use Rattle.predicates.specs.Fits.{is_text};
+ghost use Rattle.predicates.specs.Plain.{plain_of};
 ghost use Rattle.predicate_cells.specs.Ranks.{ranks_of, count_in, class_in, field_in, number_rank};
 ghost use Rattle.predicate_cells.specs.Ranks.{text_rank, number_of_class, scalar_of_class};
 ghost use Rattle.predicate_cells.specs.Ranks.{other_text};
-ghost use Rattle.predicate_cells.specs.Truth.{number_of, text_of};
+ghost use Rattle.predicates.specs.Truth.{number_of, text_of};
 
-use crate::Pred;
 use crate::starts::starts_of;
 use crate::texts::{copied, texts_of};
 use item_schema::Kind;
+use predicates::Pred;
 use std::alloc::{AllocError, Global};
 use std::marker::Model;
 use value_ops::{Bytes, Field, Scalar, Table, Value};
@@ -36,7 +36,7 @@ impl Model for Classes {
     ghost use Rattle.std.specs.Cmp.Lexicographic.{slice_cmp};
     ghost use Rattle.std.specs.List.Sorted.{IsStrictlySortedBy};
     ghost use Rattle.std.specs.Ordering.{int_cmp, nat_cmp};
-    ghost use Rattle.predicate_cells.specs.Fits.{is_text};
+    ghost use Rattle.predicates.specs.Fits.{is_text};
     ghost use Rattle.predicate_cells.specs.Ranks.{Ranks, other_text};
 
     ghost Value = { Ranks };

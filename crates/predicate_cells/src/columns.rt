@@ -4,13 +4,13 @@ ghost use Rattle.std.specs.Prelude.{◌≡◌, ◌<◌, ◌≤◌, ◌*◌, ◌^
 ghost use Rattle.std.specs.Prelude.{IfNone};
 ghost use Rattle.std.specs.Option.{option_map_or};
 ghost use Rattle.language_base.specs.Limits.{max_cells};
-ghost use Rattle.predicate_cells.specs.Plain.{plain_of};
+ghost use Rattle.predicates.specs.Plain.{plain_of};
 ghost use Rattle.predicate_cells.specs.Samples.{sample_of};
 ghost use Rattle.predicate_cells.specs.Ranks.{ranks_from, class_in, cells_in, cell_in};
 
-use crate::Pred;
 use crate::classes::Classes;
 use item_schema::Column;
+use predicates::Pred;
 use std::alloc::{AllocError, Global};
 use value_ops::Field;
 

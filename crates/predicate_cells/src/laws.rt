@@ -5,7 +5,7 @@ ghost use Rattle.value_ops.specs.declared.field.Field.{Field};
 ghost use Rattle.predicate_cells.specs.Cells.{Partition, cell_of, cell_count, CellsDecide};
 ghost use Rattle.predicate_cells.specs.Cells.{CellsHaveItems};
 ghost use Rattle.predicate_cells.specs.Met.{IsMet, IsUnmet};
-ghost use Rattle.predicate_cells.specs.Predicates.{Predicate};
+ghost use Rattle.predicates.specs.Predicates.{Predicate};
 
 /// Items of one cell agree on every predicate, each cell has an item, and each item a cell.
 pub fn cells_part_items()

@@ -2,19 +2,17 @@
 ghost use Rattle.std.specs.Prelude.{◌≡◌, ◌≤◌, Some, map, slice_get, IfOk};
 ghost use Rattle.std.specs.List.{range_with_len};
 ghost use Rattle.language_base.specs.Limits.{max_cells};
-ghost use Rattle.predicate_cells.specs.Plain.{plain_of};
-ghost use Rattle.predicate_cells.specs.Predicates.{conjunction, disjunction};
+ghost use Rattle.predicates.specs.Plain.{plain_of};
+ghost use Rattle.predicates.specs.Predicates.{conjunction, disjunction};
 ghost use Rattle.predicate_cells.specs.Ranks.{field_in, count_in, cells_in};
 ghost use Rattle.predicate_cells.specs.Samples.{samples, row_of};
-ghost use Rattle.predicate_cells.specs.Truth.{holds};
+ghost use Rattle.predicates.specs.Truth.{holds};
 
-use crate::Pred;
 use crate::class_row::ClassRow;
 use crate::classes::Classes;
 use crate::columns::product_of;
-use crate::row::Fields;
-use crate::truth::holds_in;
 use crate::truths::{block_of, both, constant, either, negated, repeated};
+use predicates::{Fields, Pred, holds_in};
 use std::alloc::{AllocError, Global};
 
 /// For each cell, whether its sample meets the predicate.

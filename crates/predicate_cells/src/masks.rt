@@ -1,13 +1,14 @@
 //! For each predicate, the cells whose items meet it.
 ghost use Rattle.std.specs.Prelude.{◌≡◌, ◌≤◌, map, IfOk};
 ghost use Rattle.language_base.specs.Limits.{max_cells};
-ghost use Rattle.predicate_cells.specs.Plain.{plain_of};
+ghost use Rattle.predicates.specs.Plain.{plain_of};
 ghost use Rattle.predicate_cells.specs.Ranks.{cells_in};
 ghost use Rattle.predicate_cells.specs.Samples.{mask_in};
 
+use crate::CellSet;
 use crate::classes::Classes;
 use crate::mask::truths_of;
-use crate::{CellSet, Pred};
+use predicates::Pred;
 use std::alloc::{AllocError, Global};
 
 /// For each predicate, the cells whose samples meet it.

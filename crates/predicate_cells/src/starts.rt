@@ -3,10 +3,10 @@ ghost use Rattle.std.specs.Prelude.{◌≡◌, [], ◌∷◌, ◌++◌, map, fil
 ghost use Rattle.std.specs.List.{flat_map};
 ghost use Rattle.std.specs.Ordering.{int_cmp};
 ghost use Rattle.predicate_cells.specs.Classes.{beginnings, begins_class, next};
-ghost use Rattle.predicate_cells.specs.Plain.{plain_of};
+ghost use Rattle.predicates.specs.Plain.{plain_of};
 ghost use Rattle.predicate_cells.specs.Rising.{rising};
 
-use crate::Pred;
+use predicates::Pred;
 use std::alloc::{AllocError, Global};
 
 /// Where all classes but the first begin, from the least number to the greatest.

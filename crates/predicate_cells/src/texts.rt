@@ -4,11 +4,11 @@ ghost use Rattle.std.specs.Cmp.Lexicographic.{slice_cmp};
 ghost use Rattle.std.specs.List.{flat_map};
 ghost use Rattle.std.specs.Ordering.{nat_cmp};
 ghost use Rattle.predicate_cells.specs.Classes.{named_texts};
-ghost use Rattle.predicate_cells.specs.Plain.{plain_of};
+ghost use Rattle.predicates.specs.Plain.{plain_of};
 ghost use Rattle.predicate_cells.specs.Rising.{rising};
 ghost use Rattle.value_ops.specs.Texts.{are_bytes};
 
-use crate::Pred;
+use predicates::Pred;
 use std::alloc::{AllocError, Global};
 use value_ops::Bytes;
 

@@ -8,9 +8,9 @@ use Rattle.value_ops.specs.declared.value.Value.{Value}
 use Rattle.value_ops.specs.declared.value.Value.TheVariants as value
 use Rattle.value_ops.specs.declared.value.ValueType.{ValueType}
 use Rattle.value_ops.specs.declared.value.ValueType.TheVariants as type
-use Rattle.value_ops.specs.Expressions.{Expression}
+use Rattle.expressions.specs.Expressions.{Expression}
 use Rattle.value_ops.specs.Types.{IsValueOf}
-use Rattle.value_ops.specs.Typing.{HasType}
+use Rattle.expressions.specs.Typing.{HasType}
 use Rattle.item_schema.specs.declared.column.Column.{Column}
 use Rattle.item_schema.specs.Items.{fields_of_value}
 use Rattle.rate_expr.specs.Language.{In}

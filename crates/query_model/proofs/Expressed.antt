@@ -3,11 +3,11 @@ use Rattle.std.proofs.Common.{◌≡◌, List, [], Some, None, sym, subst}
 use Rattle.value_ops.specs.declared.field.Field.{Field}
 use Rattle.value_ops.specs.declared.value.Value.{Value}
 use Rattle.value_ops.specs.declared.value.ValueType.{ValueType}
-use Rattle.value_ops.specs.Evaluation.{Inputs, given, value_of}
-use Rattle.value_ops.specs.Expressions.{Expression}
+use Rattle.expressions.specs.Evaluation.{Inputs, given, value_of}
+use Rattle.expressions.specs.Expressions.{Expression}
 use Rattle.value_ops.specs.Types.{IsValueOf}
-use Rattle.value_ops.specs.Typing.{Types, AreValues, HasType, types_of}
-use Rattle.value_ops.proofs.TypedValues.{typed_value, typed_range}
+use Rattle.expressions.specs.Typing.{Types, AreValues, HasType, types_of}
+use Rattle.expressions.proofs.TypedValues.{typed_value, typed_range}
 use Rattle.item_schema.specs.declared.column.Column.{Column}
 use Rattle.item_schema.specs.Items.{IsItemOf}
 use Rattle.query_model.specs.Denotation.{on_one, on_both}

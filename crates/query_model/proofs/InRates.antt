@@ -1,7 +1,7 @@
 -- A query has values on words of its rate alone.
 use Rattle.std.proofs.Common.{List, [], ◌∷◌, subst, inl, inr}
 use Rattle.std.specs.List.{AllByRecursion}
-use Rattle.value_ops.specs.Expressions.{Expression}
+use Rattle.expressions.specs.Expressions.{Expression}
 use Rattle.value_ops.specs.declared.value.Value.{Value}
 use Rattle.item_schema.specs.declared.column.Column.{Column}
 use Rattle.rate_expr.specs.Language.{In}

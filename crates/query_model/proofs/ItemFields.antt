@@ -10,12 +10,14 @@ use Rattle.value_ops.specs.declared.value.Value.{Value}
 use Rattle.value_ops.specs.declared.value.Value.TheVariants as value
 use Rattle.value_ops.specs.declared.value.ValueType.{ValueType}
 use Rattle.value_ops.specs.declared.value.ValueType.TheVariants as type
-use Rattle.value_ops.specs.declared.expr.Var.TheVariants as var
-use Rattle.value_ops.specs.Evaluation.{given, value_of_field}
+use Rattle.expressions.specs.declared.expr.Var.TheVariants as var
+use Rattle.expressions.specs.Evaluation.{given}
+use Rattle.value_ops.specs.Fields.{value_of_field}
 use Rattle.value_ops.specs.Fields.{text_of}
 use Rattle.value_ops.specs.Texts.{IsText}
 use Rattle.value_ops.specs.Types.{IsValueOf, type_of}
-use Rattle.value_ops.specs.Typing.{AreValues, type_of_field, types_of}
+use Rattle.expressions.specs.Typing.{AreValues, types_of}
+use Rattle.value_ops.specs.Fields.{type_of_field}
 use Rattle.item_schema.specs.declared.column.Column.{Column}
 use Rattle.item_schema.specs.declared.column.Kind.{Kind}
 use Rattle.item_schema.specs.declared.column.Kind.TheVariants.{Int, Fixed, Text, Number, Table}

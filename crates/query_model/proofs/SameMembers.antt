@@ -22,8 +22,8 @@ use Rattle.language_base.specs.Limits.{max_cells}
 use Rattle.predicate_cells.specs.Cells.{AllFit, count_from}
 use Rattle.predicate_cells.specs.Classes.{beginnings, begins_class, class_count, members}
 use Rattle.predicate_cells.specs.Classes.{named_texts, starts, texts}
-use Rattle.predicate_cells.specs.Fits.{fits}
-use Rattle.predicate_cells.specs.Predicates.{Predicate}
+use Rattle.predicates.specs.Fits.{fits}
+use Rattle.predicates.specs.Predicates.{Predicate}
 use Rattle.predicate_cells.specs.Rising.{rising}
 use Rattle.predicate_cells.proofs.RisingLists.{has, has_rising, length_members, one_rising, rises}
 use Rattle.predicate_cells.proofs.TextOrder.{bytes_eq_is, same_text}

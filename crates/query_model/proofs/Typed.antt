@@ -5,12 +5,12 @@ use Rattle.value_ops.specs.declared.value.Value.TheVariants as value
 use Rattle.value_ops.specs.declared.value.ValueType.{ValueType}
 use Rattle.value_ops.specs.declared.value.ValueType.TheVariants as type
 use Rattle.value_ops.specs.Entries.{keys_of, values_of}
-use Rattle.value_ops.specs.Expressions.{Expression}
+use Rattle.expressions.specs.Expressions.{Expression}
 use Rattle.value_ops.specs.Texts.{IsText}
 use Rattle.value_ops.specs.Types.{IsScalar, IsTable, IsValueOf}
-use Rattle.value_ops.specs.Typing.{HasType}
+use Rattle.expressions.specs.Typing.{HasType}
 use Rattle.item_schema.specs.declared.column.Column.{Column}
-use Rattle.predicate_cells.specs.Predicates.{Predicate}
+use Rattle.predicates.specs.Predicates.{Predicate}
 use Rattle.rate_expr.specs.Words.{Word, IsWordOf, join}
 use Rattle.rate_expr.proofs.Wording.{word_parts, word_more}
 use Rattle.query_model.specs.Denotation.{Den, Emits, Folds, Outputs, keys_after}

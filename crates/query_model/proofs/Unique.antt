@@ -6,8 +6,8 @@ use Rattle.value_ops.specs.declared.scalar.Scalar.{Scalar}
 use Rattle.value_ops.specs.declared.scalar.Scalar.TheVariants.{Number}
 use Rattle.value_ops.specs.declared.value.Value.{Value}
 use Rattle.value_ops.specs.declared.value.Value.TheVariants as value
-use Rattle.value_ops.specs.Evaluation.{given, value_of}
-use Rattle.value_ops.specs.Expressions.{Expression}
+use Rattle.expressions.specs.Evaluation.{given, value_of}
+use Rattle.expressions.specs.Expressions.{Expression}
 use Rattle.item_schema.specs.declared.column.Column.{Column}
 use Rattle.item_schema.specs.Items.{fields_of_value}
 use Rattle.rate_expr.specs.Language.{In}

@@ -2,15 +2,15 @@
 use Rattle.std.proofs.Common.{◌≡◌, ◌∙◌, ℕ, zero, suc, List, [], ◌∷◌, length, Option, slice_get}
 use Rattle.std.proofs.Common.{refl, ap}
 use Rattle.std.specs.Option.{option_and_then}
-use Rattle.value_ops.specs.declared.expr.Var.TheVariants as var
+use Rattle.expressions.specs.declared.expr.Var.TheVariants as var
 use Rattle.value_ops.specs.declared.value.Value.{Value}
 use Rattle.value_ops.specs.declared.value.Value.TheVariants as value
 use Rattle.value_ops.specs.declared.value.ValueType.{ValueType}
 use Rattle.value_ops.specs.declared.value.ValueType.TheVariants as type
-use Rattle.value_ops.specs.Expressions.{Expression, literal, read, unary, binary, choice, sum}
-use Rattle.value_ops.specs.Expressions.{count, most, least, entry, rec, part}
+use Rattle.expressions.specs.Expressions.{Expression, literal, read, unary, binary, choice, sum}
+use Rattle.expressions.specs.Expressions.{count, most, least, entry, rec, part}
 use Rattle.value_ops.specs.Types.{IsValueOf}
-use Rattle.value_ops.specs.Typing.{Types, type_named}
+use Rattle.expressions.specs.Typing.{Types, type_named}
 use Rattle.item_schema.specs.declared.column.Column.{Column}
 use Rattle.item_schema.specs.declared.column.Kind.{Kind}
 use Rattle.item_schema.specs.declared.column.Kind.TheVariants as kind

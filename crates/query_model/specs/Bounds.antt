@@ -1,8 +1,8 @@
 -- Statement. How many starts of a query may live at one time, and how much is kept for them.
 use Rattle.std.specs.Prelude.{ℕ, ◌+◌, ◌*◌}
-use Rattle.value_ops.specs.declared.expr.Var.TheVariants as var
-use Rattle.value_ops.specs.Expressions as expr
-use Rattle.value_ops.specs.Expressions.{Expression, count_of}
+use Rattle.expressions.specs.declared.expr.Var.TheVariants as var
+use Rattle.expressions.specs.Expressions as expr
+use Rattle.expressions.specs.Expressions.{Expression, count_of}
 use Rattle.rate_expr.specs.Rates.{size_of}
 use Rattle.query_model.specs.Queries.{Qre, atom, eps, choice, split, iter, combine, apply, compose}
 use Rattle.query_model.specs.Queries.{collect}

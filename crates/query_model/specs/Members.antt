@@ -1,7 +1,7 @@
 -- Statement. Lists of predicates with the same members, and lists that have each member once.
 use Rattle.std.specs.Prelude.{◌↔◌, ◌++◌, ⊤, List, [], ◌∷◌}
 use Rattle.std.specs.List.{Contains}
-use Rattle.predicate_cells.specs.Predicates.{Predicate}
+use Rattle.predicates.specs.Predicates.{Predicate}
 
 -- two lists have the same members
 abbrev pub HaveSameMembers : List Predicate → List Predicate → Type 0

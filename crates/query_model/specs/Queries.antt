@@ -1,9 +1,9 @@
 -- Statement. Quantitative regular expressions, without where they lie in memory.
 use Rattle.std.specs.Prelude.{ℕ, ℤ, List, ◌∷◌, [], ◌++◌}
 use Rattle.language_base.specs.declared.span.Span.{Span}
-use Rattle.value_ops.specs.Expressions as values
-use Rattle.predicate_cells.specs.Plain as predicates
-use Rattle.predicate_cells.specs.Predicates.{Predicate}
+use Rattle.expressions.specs.Expressions as values
+use Rattle.predicates.specs.Plain as predicates
+use Rattle.predicates.specs.Predicates.{Predicate}
 use Rattle.rate_expr.specs.Plain as rates
 use Rattle.rate_expr.specs.Rates as rate
 use Rattle.query_model.specs.declared.query.Shape.{Shape}

@@ -2,9 +2,9 @@
 use Rattle.std.specs.Prelude.{List, [], map, Option, Some, None}
 use Rattle.value_ops.specs.declared.value.ValueType.{ValueType}
 use Rattle.value_ops.specs.declared.value.ValueType.TheVariants.{Number, Rec, Table}
-use Rattle.value_ops.specs.Expressions as expr
-use Rattle.value_ops.specs.Expressions.{Expression, count_of}
-use Rattle.value_ops.specs.Typing.{Types, type_named}
+use Rattle.expressions.specs.Expressions as expr
+use Rattle.expressions.specs.Expressions.{Expression, count_of}
+use Rattle.expressions.specs.Typing.{Types, type_named}
 use Rattle.item_schema.specs.declared.column.Column.{Column}
 use Rattle.item_schema.specs.declared.column.Kind.{Kind}
 use Rattle.item_schema.specs.declared.column.Kind.TheVariants as kind

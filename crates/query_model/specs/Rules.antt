@@ -5,13 +5,13 @@ use Rattle.std.specs.Int.{w64}
 use Rattle.std.specs.List.{AllByRecursion, IsDistinct}
 use Rattle.value_ops.specs.declared.field.Field.{Field}
 use Rattle.value_ops.specs.declared.value.ValueType.TheVariants.{Number}
-use Rattle.value_ops.specs.Expressions.{Expression}
-use Rattle.value_ops.specs.Typing.{Types, HasType}
+use Rattle.expressions.specs.Expressions.{Expression}
+use Rattle.expressions.specs.Typing.{Types, HasType}
 use Rattle.item_schema.specs.declared.column.Column.{Column}
 use Rattle.item_schema.specs.Items.{IsItemOf}
-use Rattle.predicate_cells.specs.Fits.{fits, has_texts}
-use Rattle.predicate_cells.specs.Predicates.{Predicate}
-use Rattle.predicate_cells.specs.Truth.{holds}
+use Rattle.predicates.specs.Fits.{fits, has_texts}
+use Rattle.predicates.specs.Predicates.{Predicate}
+use Rattle.predicates.specs.Truth.{holds}
 use Rattle.rate_expr.specs.Rates.{preds_of}
 use Rattle.rate_expr.specs.Readings.{AreDisjoint, AreEqual, HasAllButEmpty, HasOneFactoring}
 use Rattle.rate_expr.specs.Readings.{HaveOneSplit}

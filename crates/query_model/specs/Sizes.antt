@@ -4,7 +4,7 @@ use Rattle.std.specs.Prelude.{◌≤◌, ◌+◌, ℕ, List, [], ◌∷◌, ◌+
 use Rattle.language_base.specs.Limits.{max_cells, max_nodes, max_positions}
 use Rattle.item_schema.specs.declared.column.Column.{Column}
 use Rattle.predicate_cells.specs.Cells.{count_from}
-use Rattle.predicate_cells.specs.Predicates.{Predicate}
+use Rattle.predicates.specs.Predicates.{Predicate}
 use Rattle.rate_expr.specs.Rates.{preds_of, size_of}
 use Rattle.query_model.specs.Bounds.{nodes_of, slots_of}
 use Rattle.query_model.specs.Queries.{Qre, atom, eps, choice, split, iter, combine, apply, compose}

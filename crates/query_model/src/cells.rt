@@ -1,7 +1,7 @@
 //! The cells of a stream under the predicates of a query.
 ghost use Rattle.std.specs.Prelude.{◌≡◌, [], ◌∷◌, ◌++◌, false, true, Err, IfOk, OnOk};
 ghost use Rattle.predicate_cells.specs.Cells.{AllFit};
-ghost use Rattle.predicate_cells.specs.Plain as predicate;
+ghost use Rattle.predicates.specs.Plain as predicate;
 ghost use Rattle.predicate_cells.specs.declared.stop.CellStop.TheVariants.{TooMany};
 ghost use Rattle.query_model.specs.Few.{has_few_cells};
 ghost use Rattle.query_model.specs.Members.{Gathers, HaveSameMembers, StandOnce};
@@ -12,7 +12,8 @@ ghost use Rattle.rate_expr.specs.Rates.{preds_of};
 
 use crate::{Query, Shape};
 use item_schema::Schema;
-use predicate_cells::{CellStop, Cells, Pred, Preds};
+use predicate_cells::{CellStop, Cells};
+use predicates::{Pred, Preds};
 use rate_expr::Rate;
 use std::alloc::{AllocError, Global};
 

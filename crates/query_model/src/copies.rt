@@ -1,17 +1,17 @@
 //! Shapes that are copied with their operands, in which each place stays.
 ghost use Rattle.std.specs.Prelude.{◌≡◌, [], ◌∷◌, ◌++◌, IfOk};
-ghost use Rattle.predicate_cells.specs.Plain as predicates;
+ghost use Rattle.predicates.specs.Plain as predicates;
 ghost use Rattle.query_model.specs.Queries.{plain_of, spans_of, apply, atom, choice, collect};
 ghost use Rattle.query_model.specs.Queries.{combine, compose, iter, split};
 ghost use Rattle.rate_expr.specs.Plain as rates;
-ghost use Rattle.value_ops.specs.Expressions as values;
+ghost use Rattle.expressions.specs.Expressions as values;
 
 use crate::KeyColumns;
 use crate::query::{Query, Shape};
-use predicate_cells::Pred;
+use expressions::Expr;
+use predicates::Pred;
 use rate_expr::Rate;
 use std::alloc::{AllocError, Global};
-use value_ops::Expr;
 
 pub(crate) fn copy_of_atom(pred: &Pred, value: &Expr, alloc: Global) -> Result<Shape, AllocError>
     ensures query { IfOk result (λ copy. plain_of copy

@@ -7,10 +7,10 @@ use crate::copies::{
 };
 use crate::query_rates::{rate_of_choice, rate_of_iter, rate_of_split};
 use crate::{KeyColumns, Span};
-use predicate_cells::Pred;
+use expressions::Expr;
+use predicates::Pred;
 use rate_expr::Rate;
 use std::alloc::{AllocError, Global};
-use value_ops::Expr;
 
 /// A query, with its place in a text.
 #[derive(Drop)]

@@ -4,8 +4,8 @@ use Rattle.std.proofs.Common.{subst}
 use Rattle.item_schema.specs.declared.column.Column.{Column}
 use Rattle.language_base.specs.declared.rule.Rule.TheVariants.{Name, Mismatch}
 use Rattle.language_base.specs.declared.span.Span.{Span}
-use Rattle.predicate_cells.specs.Fits.{fits}
-use Rattle.predicate_cells.specs.Predicates as plain
+use Rattle.predicates.specs.Fits.{fits}
+use Rattle.predicates.specs.Predicates as plain
 use Rattle.query_model.specs.Queries.{atom, plain_of}
 use Rattle.query_model.specs.QueryTypes as types
 use Rattle.query_syntax.specs.Expressions as e
@@ -25,8 +25,8 @@ use Rattle.query_resolver.specs.declared.stop.CheckStop.{CheckStop}
 use Rattle.query_resolver.specs.declared.stop.CheckStop.TheVariants.{Refused, Memory}
 use Rattle.query_resolver.proofs.FromOperands.{made_of, no_place}
 use Rattle.query_resolver.proofs.WellTyped.{is_typed_true, type_is, untyped, well_typed}
-use Rattle.value_ops.specs.Expressions as values
-use Rattle.value_ops.specs.Typing.{HasType, Types}
+use Rattle.expressions.specs.Expressions as values
+use Rattle.expressions.specs.Typing.{HasType, Types}
 use Rattle.value_ops.specs.declared.value.ValueType.{ValueType}
 
 -- the types of the names of an atom

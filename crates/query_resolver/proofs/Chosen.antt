@@ -1,7 +1,7 @@
 -- A choice of two pairs of expressions.
 use Rattle.std.proofs.Common.{◌≡◌, Option, Some, None, refl, sym}
 use Rattle.query_resolver.specs.Expressions.{both_of, choice_of}
-use Rattle.value_ops.specs.Expressions.{Expression}
+use Rattle.expressions.specs.Expressions.{Expression}
 
 -- both of two expressions, by what each node of them is
 parts_of : (left right : Option Expression) (one other : Expression)

@@ -8,8 +8,8 @@ use Rattle.std.proofs.lemmas.Result.{IfErr-weaker, IfOk-weaker}
 use Rattle.item_schema.specs.declared.column.Column.{Column}
 use Rattle.language_base.specs.declared.rule.Rule.TheVariants.{Name, Nested, Mismatch}
 use Rattle.language_base.specs.declared.span.Span.{Span}
-use Rattle.predicate_cells.specs.Fits.{fits}
-use Rattle.predicate_cells.specs.Predicates as plain
+use Rattle.predicates.specs.Fits.{fits}
+use Rattle.predicates.specs.Predicates as plain
 use Rattle.query_model.specs.Queries.{Qre, collect, plain_of}
 use Rattle.query_syntax.specs.Keys.{names_of}
 use Rattle.query_syntax.specs.Predicates as p

@@ -6,8 +6,8 @@ use Rattle.item_schema.specs.Layout.{part_column, part_columns}
 use Rattle.item_schema.specs.declared.column.Column.{Column}
 use Rattle.query_model.specs.QueryTypes.{derived_columns, of_columns, of_one, of_two}
 use Rattle.query_model.specs.QueryTypes.{type_of_expression, type_of_kind}
-use Rattle.value_ops.specs.Expressions.{Expression}
-use Rattle.value_ops.specs.Typing.{Types}
+use Rattle.expressions.specs.Expressions.{Expression}
+use Rattle.expressions.specs.Typing.{Types}
 use Rattle.value_ops.specs.declared.value.ValueType.{ValueType}
 use Rattle.value_ops.specs.declared.value.ValueType.TheVariants.{Number, Rec}
 

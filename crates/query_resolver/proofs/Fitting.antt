@@ -3,8 +3,8 @@ use Rattle.std.proofs.Common.{List, ◌++◌, refl, ◌∙◌}
 use Rattle.std.proofs.lemmas.List.Folds.{list_all-append}
 use Rattle.item_schema.specs.declared.column.Column.{Column}
 use Rattle.predicate_cells.specs.Cells.{AllFit}
-use Rattle.predicate_cells.specs.Fits.{fits}
-use Rattle.predicate_cells.specs.Predicates.{Predicate}
+use Rattle.predicates.specs.Fits.{fits}
+use Rattle.predicates.specs.Predicates.{Predicate}
 use Rattle.query_model.specs.Queries.{Qre, atom, eps, choice, split, iter, combine, apply, compose}
 use Rattle.query_model.specs.Queries.{collect}
 use Rattle.query_model.specs.Sizes.{predicates_of}

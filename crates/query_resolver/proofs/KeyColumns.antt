@@ -6,7 +6,7 @@ use Rattle.std.proofs.lemmas.Bool.{and_parts}
 use Rattle.std.proofs.lemmas.Bool.Decides.{nat_tests}
 use Rattle.std.proofs.lemmas.Map.Keys.{IsDistinct-cons}
 use Rattle.item_schema.specs.declared.column.Column.{Column}
-use Rattle.predicate_cells.specs.Fits.{has_texts}
+use Rattle.predicates.specs.Fits.{has_texts}
 use Rattle.query_model.specs.Rules.{AreKeyColumns}
 use Rattle.query_syntax.specs.declared.leaf.Name.{Name}
 use Rattle.query_resolver.specs.Names.{column_named, columns_named, key_named, once, stand_once}

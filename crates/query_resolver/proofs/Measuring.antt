@@ -11,7 +11,7 @@ use Rattle.language_base.specs.declared.rule.Rule.TheVariants.{Cells, Name, Size
 use Rattle.language_base.specs.declared.span.Span.{Span}
 use Rattle.item_schema.specs.Layout.{Layout, is_read}
 use Rattle.item_schema.specs.declared.column.Column as schema
-use Rattle.predicate_cells.specs.Predicates.{Predicate}
+use Rattle.predicates.specs.Predicates.{Predicate}
 use Rattle.query_lets.specs.Sizes as trees
 use Rattle.query_lets.specs.Unfolded.{unfolded}
 use Rattle.query_lets.specs.Words.{Word, column_words, first_wrong, is_wrong, let_words, word_span}

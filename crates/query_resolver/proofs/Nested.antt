@@ -2,7 +2,7 @@
 use Rattle.std.proofs.Common.{List, IfOk}
 use Rattle.language_base.specs.declared.rule.Rule.TheVariants.{Name, Mismatch}
 use Rattle.item_schema.specs.declared.column.Column.{Column}
-use Rattle.predicate_cells.specs.Fits.{fits}
+use Rattle.predicates.specs.Fits.{fits}
 use Rattle.value_ops.specs.declared.value.ValueType.TheVariants.{Number}
 use Rattle.query_model.specs.QueryTypes as types
 use Rattle.query_model.specs.QueryTypes.{derived_columns, type_of}

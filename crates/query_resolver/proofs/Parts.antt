@@ -5,9 +5,9 @@ use Rattle.std.specs.Option.{option_map}
 use Rattle.std.proofs.lemmas.List.{drop_all, drop_more, length_push, map_push}
 use Rattle.query_syntax.specs.Plain.{plain_expression, plain_expressions}
 use Rattle.query_syntax.specs.declared.expression.Expression as tree
-use Rattle.value_ops.specs.Expressions.{Expression, Expressions, all_of, count_of, more, none}
-use Rattle.value_ops.specs.Expressions.{plain_of, plain_parts}
-use Rattle.value_ops.specs.declared.expr.Expr.{Expr}
+use Rattle.expressions.specs.Expressions.{Expression, Expressions, all_of, count_of, more, none}
+use Rattle.expressions.specs.Expressions.{plain_of, plain_parts}
+use Rattle.expressions.specs.declared.expr.Expr.{Expr}
 use Rattle.query_resolver.specs.Expressions.{Scope, expression_over, expressions_over, more_of}
 use Rattle.query_resolver.specs.Scopes.{HasFittingNumbers, HaveFittingNumbers}
 

@@ -26,9 +26,9 @@ use Rattle.query_resolver.specs.declared.stop.CheckStop.{CheckStop}
 use Rattle.query_resolver.specs.declared.stop.CheckStop.TheVariants.{Refused, Memory}
 use Rattle.query_resolver.proofs.FromOperands.{made_of, no_place, one_place, two_places}
 use Rattle.query_resolver.proofs.Valued.{fit, fit_number}
-use Rattle.value_ops.specs.Expressions as values
-use Rattle.value_ops.specs.Typing.{HasType, Types}
-use Rattle.value_ops.specs.declared.expr.Expr.{Expr}
+use Rattle.expressions.specs.Expressions as values
+use Rattle.expressions.specs.Typing.{HasType, Types}
+use Rattle.expressions.specs.declared.expr.Expr.{Expr}
 use Rattle.value_ops.specs.declared.value.ValueType.{ValueType}
 use Rattle.value_ops.specs.declared.value.ValueType.TheVariants as type
 

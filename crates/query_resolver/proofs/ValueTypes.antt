@@ -15,11 +15,11 @@ use Rattle.query_resolver.specs.Findings.{KeepsTypes}
 use Rattle.query_resolver.specs.Resolutions.{IsMade}
 use Rattle.query_resolver.specs.Resolved.{Nesting}
 use Rattle.query_resolver.specs.declared.query_types.Typed.{Typed}
-use Rattle.value_ops.specs.Expressions.{Expression, read, rec}
+use Rattle.expressions.specs.Expressions.{Expression, read, rec}
 use Rattle.value_ops.specs.Types.{IsType}
-use Rattle.value_ops.specs.Typing.{Types, type_named}
-use Rattle.value_ops.specs.declared.expr.Var.{Var}
-use Rattle.value_ops.specs.declared.expr.Var.TheVariants.{Field, Left, Right}
+use Rattle.expressions.specs.Typing.{Types, type_named}
+use Rattle.expressions.specs.declared.expr.Var.{Var}
+use Rattle.expressions.specs.declared.expr.Var.TheVariants.{Field, Left, Right}
 use Rattle.value_ops.specs.declared.value.ValueType.{ValueType}
 
 -- each name that has a type has one that values have

@@ -4,8 +4,8 @@ use Rattle.language_base.specs.declared.rule.Rule.TheVariants.{Name, Mismatch}
 use Rattle.language_base.specs.declared.span.Span.{Span}
 use Rattle.query_model.specs.Queries.{Qre}
 use Rattle.query_syntax.specs.Expressions as e
-use Rattle.value_ops.specs.Expressions.{Expression}
-use Rattle.value_ops.specs.Typing.{HasType, Types}
+use Rattle.expressions.specs.Expressions.{Expression}
+use Rattle.expressions.specs.Typing.{HasType, Types}
 use Rattle.value_ops.specs.declared.value.ValueType.{ValueType}
 use Rattle.query_resolver.specs.Expressions.{Scope, expression_over, is_number, is_typed}
 use Rattle.query_resolver.specs.Resolutions.{number_then, typed_then}

@@ -8,12 +8,12 @@ use Rattle.query_syntax.specs.declared.operator.Extremum.{Extremum}
 use Rattle.query_syntax.specs.declared.operator.Extremum.TheVariants as extremum
 use Rattle.query_syntax.specs.declared.operator.Summary.{Summary}
 use Rattle.query_syntax.specs.declared.operator.Summary.TheVariants as summary
-use Rattle.value_ops.specs.Expressions.{Expression, literal, read, unary, binary, choice, sum}
-use Rattle.value_ops.specs.Expressions.{count, most, least, entry, rec, part, Expressions, none}
-use Rattle.value_ops.specs.Expressions.{more, count_of}
-use Rattle.value_ops.specs.Typing.{Types, type_named}
-use Rattle.value_ops.specs.declared.expr.Var.{Var}
-use Rattle.value_ops.specs.declared.expr.Var.TheVariants.{Field, Left, Right}
+use Rattle.expressions.specs.Expressions.{Expression, literal, read, unary, binary, choice, sum}
+use Rattle.expressions.specs.Expressions.{count, most, least, entry, rec, part, Expressions, none}
+use Rattle.expressions.specs.Expressions.{more, count_of}
+use Rattle.expressions.specs.Typing.{Types, type_named}
+use Rattle.expressions.specs.declared.expr.Var.{Var}
+use Rattle.expressions.specs.declared.expr.Var.TheVariants.{Field, Left, Right}
 use Rattle.value_ops.specs.declared.value.ValueType.{ValueType}
 use Rattle.value_ops.specs.declared.value.ValueType.TheVariants.{Number, Rec, Table}
 use Rattle.query_resolver.specs.Names.{column_named}

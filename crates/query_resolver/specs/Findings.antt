@@ -5,7 +5,7 @@ use Rattle.std.specs.List.{Contains}
 use Rattle.std.specs.Option.{option_or}
 use Rattle.language_base.specs.declared.refusal.Refusal.{Refusal}
 use Rattle.language_base.specs.declared.span.Span.{Span}
-use Rattle.predicate_cells.specs.Predicates.{Predicate}
+use Rattle.predicates.specs.Predicates.{Predicate}
 use Rattle.query_model.specs.Queries.{Qre, atom, eps, choice, split, iter, combine, apply, compose}
 use Rattle.query_model.specs.Queries.{collect, plain_of}
 use Rattle.item_schema.specs.declared.column.Column.{Column}
@@ -24,11 +24,11 @@ use Rattle.query_resolver.specs.Nodes.{with_one, with_two}
 use Rattle.query_resolver.specs.Sizes.{derives_many_cells}
 use Rattle.query_resolver.specs.Steps.{refusal}
 use Rattle.std.specs.Int.{w64}
-use Rattle.predicate_cells.specs.Fits.{fits}
+use Rattle.predicates.specs.Fits.{fits}
 use Rattle.query_resolver.specs.declared.query_types.Typed.{Typed}
 use Rattle.query_resolver.specs.declared.stop.CheckStop.{CheckStop}
 use Rattle.query_resolver.specs.declared.stop.CheckStop.TheVariants.{Refused, Memory}
-use Rattle.value_ops.specs.Typing.{HasType}
+use Rattle.expressions.specs.Typing.{HasType}
 use Rattle.value_ops.specs.declared.value.ValueType.{ValueType}
 use Rattle.value_ops.specs.declared.value.ValueType.TheVariants.{Number}
 

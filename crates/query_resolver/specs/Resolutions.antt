@@ -5,9 +5,9 @@ use Rattle.item_schema.specs.declared.column.Column.{Column}
 use Rattle.language_base.specs.declared.refusal.Refusal.{Refusal}
 use Rattle.language_base.specs.declared.rule.Rule.TheVariants.{Name, Mismatch}
 use Rattle.language_base.specs.declared.span.Span.{Span}
-use Rattle.predicate_cells.specs.Fits.{fits}
-use Rattle.predicate_cells.specs.Plain as predicates
-use Rattle.predicate_cells.specs.Predicates.{Predicate}
+use Rattle.predicates.specs.Fits.{fits}
+use Rattle.predicates.specs.Plain as predicates
+use Rattle.predicates.specs.Predicates.{Predicate}
 use Rattle.query_model.specs.Queries.{Qre, plain_of}
 use Rattle.query_model.specs.QueryTypes.{derived_columns, of_columns, type_of_expression}
 use Rattle.query_model.specs.Rules.{IsTyped}
@@ -34,10 +34,10 @@ use Rattle.query_resolver.specs.declared.query_types.Typed.{Typed}
 use Rattle.query_resolver.specs.declared.shapes.Items.{Items}
 use Rattle.query_resolver.specs.declared.stop.CheckStop.{CheckStop}
 use Rattle.query_resolver.specs.declared.streams.Parts.{Parts}
-use Rattle.value_ops.specs.Expressions.{Expression}
-use Rattle.value_ops.specs.Expressions as values
-use Rattle.value_ops.specs.Typing.{IsNumber, Types}
-use Rattle.value_ops.specs.declared.expr.Expr.{Expr}
+use Rattle.expressions.specs.Expressions.{Expression}
+use Rattle.expressions.specs.Expressions as values
+use Rattle.expressions.specs.Typing.{IsNumber, Types}
+use Rattle.expressions.specs.declared.expr.Expr.{Expr}
 use Rattle.value_ops.specs.declared.value.ValueType.{ValueType}
 use Rattle.value_ops.specs.declared.value.ValueType.TheVariants.{Number}
 

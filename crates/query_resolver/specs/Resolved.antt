@@ -9,7 +9,7 @@ use Rattle.language_base.specs.declared.rule.Rule.TheVariants.{Name, Nested, Mis
 use Rattle.item_schema.specs.declared.column.Column.{Column}
 use Rattle.value_ops.specs.declared.value.ValueType.{ValueType}
 use Rattle.value_ops.specs.declared.value.ValueType.TheVariants.{Number, Rec, Table}
-use Rattle.predicate_cells.specs.Fits.{fits, has_texts}
+use Rattle.predicates.specs.Fits.{fits, has_texts}
 use Rattle.rate_expr.specs.Rates.{preds_of}
 use Rattle.query_model.specs.Queries.{Qre, atom, eps, choice, split, iter, combine, apply, compose}
 use Rattle.query_model.specs.Queries.{collect}

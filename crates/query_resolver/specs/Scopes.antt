@@ -2,9 +2,9 @@
 -- memory.
 use Rattle.std.specs.Prelude.{FitsSigned}
 use Rattle.std.specs.Int.{w64}
-use Rattle.value_ops.specs.Expressions.{Expression, literal, read, unary, binary, choice, sum}
-use Rattle.value_ops.specs.Expressions.{count, most, least, entry, rec, part, Expressions, none}
-use Rattle.value_ops.specs.Expressions.{more}
+use Rattle.expressions.specs.Expressions.{Expression, literal, read, unary, binary, choice, sum}
+use Rattle.expressions.specs.Expressions.{count, most, least, entry, rec, part, Expressions, none}
+use Rattle.expressions.specs.Expressions.{more}
 use Rattle.query_resolver.specs.Expressions.{Scope, of_item, of_one, of_two}
 use Rattle.query_resolver.specs.declared.expression.Scope as memory
 use Rattle.query_resolver.specs.declared.expression.Scope.TheVariants.{Item, One, Two}

@@ -1,9 +1,9 @@
 -- Statement. Predicates over the columns of a stream: their names are resolved to columns.
 use Rattle.std.specs.Prelude.{ℕ, ℤ, List, Option, None, Some, option_map}
 use Rattle.item_schema.specs.declared.column.Column.{Column}
-use Rattle.predicate_cells.specs.Predicates as plain
-use Rattle.predicate_cells.specs.Predicates.{eq, ne, lt, le, gt, ge, eq_text, ne_text, conjunction}
-use Rattle.predicate_cells.specs.Predicates.{disjunction, negation}
+use Rattle.predicates.specs.Predicates as plain
+use Rattle.predicates.specs.Predicates.{eq, ne, lt, le, gt, ge, eq_text, ne_text, conjunction}
+use Rattle.predicates.specs.Predicates.{disjunction, negation}
 use Rattle.query_syntax.specs.Predicates.{Predicate, any, equality, order, between, is_num, joined}
 use Rattle.query_syntax.specs.Predicates.{negated}
 use Rattle.query_syntax.specs.declared.leaf.Literal.{Literal}

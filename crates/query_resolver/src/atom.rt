@@ -1,8 +1,8 @@
 //! Atoms whose names are resolved and whose types fit.
 ghost use Rattle.std.specs.Prelude.{◌≡◌, true, IfErr, IfOk, OnOk, Some};
 ghost use Rattle.language_base.specs.declared.rule.Rule.TheVariants.{Name};
-ghost use Rattle.predicate_cells.specs.Fits.{fits};
-ghost use Rattle.predicate_cells.specs.Plain as predicates;
+ghost use Rattle.predicates.specs.Fits.{fits};
+ghost use Rattle.predicates.specs.Plain as predicates;
 ghost use Rattle.query_model.specs.QueryTypes.{of_columns};
 ghost use Rattle.query_syntax.specs.Expressions as e;
 ghost use Rattle.query_syntax.specs.Plain.{plain_expression, plain_predicate};
@@ -15,21 +15,22 @@ ghost use Rattle.query_resolver.specs.Resolutions.{columns_of};
 ghost use Rattle.query_resolver.specs.Resolved.{Nesting};
 ghost use Rattle.query_resolver.specs.Scopes.{HasFittingNumbers};
 ghost use Rattle.query_resolver.specs.Steps.{found};
-ghost use Rattle.value_ops.specs.Expressions as values;
-ghost use Rattle.value_ops.specs.Typing.{HasType};
+ghost use Rattle.expressions.specs.Expressions as values;
+ghost use Rattle.expressions.specs.Typing.{HasType};
 
 use crate::CheckStop;
 use crate::expression::{Scope, expression_over};
 use crate::predicate::named_pred;
 use crate::query_types::Typed;
 use crate::shapes::Items;
+use expressions::{Expr, Types};
 use item_schema::Schema;
 use language_base::{Rule, Span};
-use predicate_cells::Pred;
+use predicates::Pred;
 use query_model::Shape;
 use query_syntax::{Expression, Predicate};
 use std::alloc::Global;
-use value_ops::{Expr, Types, ValueType};
+use value_ops::ValueType;
 
 /// One item that meets the predicate.
 pub fn atom(

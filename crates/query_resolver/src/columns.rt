@@ -1,6 +1,6 @@
 //! The names of columns.
 ghost use Rattle.std.specs.Prelude.{◌≡◌, ◌<◌, IfSome, length};
-ghost use Rattle.predicate_cells.specs.Fits.{has_texts};
+ghost use Rattle.predicates.specs.Fits.{has_texts};
 ghost use Rattle.query_resolver.specs.Names.{column_named};
 ghost use Rattle.query_resolver.specs.Resolved.{have_texts};
 

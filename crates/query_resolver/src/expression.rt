@@ -6,14 +6,14 @@ ghost use Rattle.query_resolver.specs.Expressions.{both_of, choice_of, expressio
 ghost use Rattle.query_resolver.specs.Expressions.{expressions_over, extremum_of, named_in};
 ghost use Rattle.query_resolver.specs.Expressions.{table_form};
 ghost use Rattle.query_resolver.specs.Scopes.{HasFittingNumbers, HaveFittingNumbers, plain_scope};
-ghost use Rattle.value_ops.specs.Expressions.{binary, choice, entry, plain_of, plain_parts, rec};
-ghost use Rattle.value_ops.specs.Expressions.{unary};
+ghost use Rattle.expressions.specs.Expressions.{binary, choice, entry, plain_of, plain_parts, rec};
+ghost use Rattle.expressions.specs.Expressions.{unary};
 
 use crate::expression_names::{extremum_with, named_in, part_over, read_over, summary_over};
+use expressions::{Expr, Exprs};
 use item_schema::Schema;
 use query_syntax::{BinaryOp, Comparison, Expression, Extremum, Name, Text, UnaryOp};
 use std::alloc::{AllocError, Global};
-use value_ops::{Expr, Exprs};
 
 /// What the names of an expression stand for.
 #[derive(Clone, Copy)]

@@ -2,12 +2,12 @@
 ghost use Rattle.std.specs.Prelude.{◌≡◌, IfSome, option_map};
 ghost use Rattle.query_resolver.specs.Expressions.{extremum_of, named_in, summary_of};
 ghost use Rattle.query_resolver.specs.Scopes.{HasFittingNumbers, plain_scope};
-ghost use Rattle.value_ops.specs.Expressions.{part, plain_of, read};
+ghost use Rattle.expressions.specs.Expressions.{part, plain_of, read};
 
 use crate::columns::column_named;
 use crate::expression::Scope;
+use expressions::{Expr, Var};
 use query_syntax::{Extremum, Index, Name, Summary};
-use value_ops::{Expr, Var};
 
 /// The name itself, read.
 pub fn read_over(scope: Scope<'_>, name: &Name) -> Option<Expr>

@@ -3,7 +3,7 @@
 ghost use Rattle.std.specs.Prelude.{◌≡◌, IfErr, IfOk, None, Ok, OnOk};
 ghost use Rattle.std.specs.List.{Contains};
 ghost use Rattle.item_schema.specs.Layout.{Layout};
-ghost use Rattle.predicate_cells.specs.Predicates.{Predicate};
+ghost use Rattle.predicates.specs.Predicates.{Predicate};
 ghost use Rattle.query_lets.specs.Unfolded.{unfolded};
 ghost use Rattle.query_lets.specs.Words.{wrong_name};
 ghost use Rattle.query_model.specs.Queries.{plain_of};

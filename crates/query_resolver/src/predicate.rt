@@ -1,8 +1,8 @@
 //! Predicates over the columns of a stream.
 ghost use Rattle.std.specs.Prelude.{◌≡◌, IfErr, IfOk, Some, option_map};
 ghost use Rattle.language_base.specs.declared.rule.Rule.TheVariants.{Name};
-ghost use Rattle.predicate_cells.specs.Plain.{plain_of};
-ghost use Rattle.predicate_cells.specs.Predicates.{negation};
+ghost use Rattle.predicates.specs.Plain.{plain_of};
+ghost use Rattle.predicates.specs.Predicates.{negation};
 ghost use Rattle.query_syntax.specs.Plain.{plain_predicate};
 ghost use Rattle.query_resolver.specs.Findings.{IsUnresolved};
 ghost use Rattle.query_resolver.specs.Names.{column_named};
@@ -14,7 +14,7 @@ use crate::CheckStop;
 use crate::columns::column_named;
 use item_schema::Schema;
 use language_base::{Rule, Span};
-use predicate_cells::Pred;
+use predicates::Pred;
 use query_syntax::{Connective, Equality, Literal, Order, Predicate};
 use std::alloc::{AllocError, Global};
 

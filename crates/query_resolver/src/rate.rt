@@ -2,7 +2,7 @@
 ghost use Rattle.std.specs.Prelude.{◌≡◌, IfErr, IfOk, Some, option_map};
 ghost use Rattle.std.specs.List.{list_all};
 ghost use Rattle.language_base.specs.declared.rule.Rule.TheVariants.{Name};
-ghost use Rattle.predicate_cells.specs.Fits.{fits};
+ghost use Rattle.predicates.specs.Fits.{fits};
 ghost use Rattle.query_syntax.specs.Plain.{plain_rate};
 ghost use Rattle.rate_expr.specs.Plain.{plain_of};
 ghost use Rattle.rate_expr.specs.Rates.{preds_of};

@@ -9,18 +9,19 @@ ghost use Rattle.query_resolver.specs.Resolutions.{IsMade, IsMadeOfOne, IsMadeOf
 ghost use Rattle.query_resolver.specs.Resolutions.{IsRefused, IsRefusedOverOne, IsRefusedOverTwo};
 ghost use Rattle.query_resolver.specs.Resolved.{Nesting, same_type};
 ghost use Rattle.query_model.specs.QueryTypes.{of_one, of_two};
-ghost use Rattle.value_ops.specs.Shown.{shown_types};
+ghost use Rattle.expressions.specs.Shown.{shown_types};
 
 use crate::CheckStop;
 use crate::expression::Scope;
 use crate::query_types::Typed;
 use crate::typed_expressions::{number_over, value_over};
+use expressions::Types;
 use item_schema::Schema;
 use language_base::{Rule, Span};
 use query_model::Shape;
 use query_syntax::{Expression, Number, Query};
 use std::alloc::Global;
-use value_ops::{Types, ValueType};
+use value_ops::ValueType;
 
 /// The columns of a stream, and the types of the fields in them.
 #[derive(Clone, Copy)]

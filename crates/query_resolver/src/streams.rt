@@ -22,7 +22,7 @@ use crate::rate::{all_fit, named_rate};
 use crate::shapes::{Items, same_type};
 use item_schema::Schema;
 use language_base::{Rule, Span};
-use predicate_cells::Pred;
+use predicates::Pred;
 use query_model::{KeyColumns, Shape};
 use query_syntax::{Key, Predicate};
 use rate_expr::Rate;

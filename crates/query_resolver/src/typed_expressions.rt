@@ -7,15 +7,16 @@ ghost use Rattle.query_resolver.specs.Findings.{IsUnresolved};
 ghost use Rattle.query_resolver.specs.Resolutions.{IsNumberOver, IsValueOver, number_then};
 ghost use Rattle.query_resolver.specs.Resolutions.{typed_then};
 ghost use Rattle.query_resolver.specs.Scopes.{HasFittingNumbers, plain_scope};
-ghost use Rattle.value_ops.specs.Expressions as values;
-ghost use Rattle.value_ops.specs.Shown.{shown_types};
+ghost use Rattle.expressions.specs.Expressions as values;
+ghost use Rattle.expressions.specs.Shown.{shown_types};
 
 use crate::CheckStop;
 use crate::expression::{Scope, expression_over};
+use expressions::{Expr, Types};
 use language_base::{Rule, Span};
 use query_syntax::Expression;
 use std::alloc::Global;
-use value_ops::{Expr, Types, ValueType};
+use value_ops::ValueType;
 
 /// The expression and its type, for a node that stands at the place.
 pub fn value_over(

@@ -6,17 +6,18 @@ ghost use Rattle.query_model.specs.Queries.{plain_of};
 ghost use Rattle.query_model.specs.QueryTypes.{derived_columns, of_columns, type_of};
 ghost use Rattle.query_model.specs.QueryTypes.{type_of_expression};
 ghost use Rattle.query_resolver.specs.Findings.{KeepsTypes, KeepsTypesOver};
-ghost use Rattle.value_ops.specs.Expressions as values;
-ghost use Rattle.value_ops.specs.Shown.{shown_types};
+ghost use Rattle.expressions.specs.Expressions as values;
+ghost use Rattle.expressions.specs.Shown.{shown_types};
 ghost use Rattle.value_ops.specs.Types.{IsType};
-ghost use Rattle.value_ops.specs.Typing.{type_named};
+ghost use Rattle.expressions.specs.Typing.{type_named};
 
 use crate::query_types::types_of;
 use crate::shapes::{of_one, of_two};
+use expressions::{Expr, Types, Var};
 use item_schema::Schema;
 use query_model::{Query, Shape};
 use std::alloc::{AllocError, Global};
-use value_ops::{Expr, Types, ValueType, Var};
+use value_ops::ValueType;
 
 /// The stream of the values of a query on items of the schema.
 pub fn values_of(alloc: Global, schema: &Schema, query: &Query) -> Result<Schema, AllocError>

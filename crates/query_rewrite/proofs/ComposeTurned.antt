@@ -1,7 +1,8 @@
 -- Compositions are grouped from the left. Each value of the middle query but the one on no values
 -- comes after a value of the first one, so on a word on which the first one and the middle one have
 -- values; and where the middle one has none on no values, no other is read.
-use Rattle.std.proofs.Common.{◌≡◌, ◌≤◌, ◌↔◌, ◌∙◌, ◌+◌, ◌++◌, ◌⊎◌, ℕ, List, [], ◌∷◌, refl, sym, subst}
+use Rattle.std.proofs.Common.{◌≡◌, ◌≤◌, ◌↔◌, ◌∙◌, ◌+◌, ◌++◌, ◌⊎◌, ℕ, List, [], ◌∷◌, refl, sym}
+use Rattle.std.proofs.Common.{subst}
 use Rattle.std.proofs.Common.{ap, arith, inl, inr, append-nil, append_assoc}
 use Rattle.value_ops.specs.declared.field.Field.{Field}
 use Rattle.value_ops.specs.declared.value.Value.{Value}
@@ -41,7 +42,8 @@ outputs_more D before (x ∷ word) out last item (first, others, emitted, output
   where
     regrouped : (before : Word) (x : List Field) (word : Word) (item : List Field)
         → before ++ (x ∷ word) ++ item ∷ [] ≡ (before ++ x ∷ []) ++ word ++ item ∷ []
-    regrouped before x word item = ap (λ w. w ++ item ∷ []) (sym (append_assoc before (x ∷ []) word))
+    regrouped before x word item =
+        ap (λ w. w ++ item ∷ []) (sym (append_assoc before (x ∷ []) word))
 
 -- the values of a query on the prefixes of `before ++ out` that are longer than `before`
 abbrev After : (Word → Value → Type 0) → Word → Word → Word → Type 0
@@ -79,7 +81,8 @@ module _ (columns : List Column) (f g : Qre) (one : IsOne columns (Den f)) where
       (last : Word) → Emits (Den f) word last → Outputs (Den f) [] word (prior ++ last)
 
   -- also with one more item
-  one_more : (word prior first : Word) (item : List Field) → Outputs (Den f) [] word (prior ++ first)
+  one_more : (word prior first : Word) (item : List Field)
+      → Outputs (Den f) [] word (prior ++ first)
       → (last : Word) → Emits (Den f) (word ++ item ∷ []) last
       → Outputs (Den f) [] (word ++ item ∷ []) ((prior ++ first) ++ last)
   one_more word prior first item outputs last emits =

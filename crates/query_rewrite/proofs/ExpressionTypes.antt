@@ -5,19 +5,19 @@ use Rattle.language_base.specs.declared.binary.BinaryOp.{BinaryOp}
 use Rattle.language_base.specs.declared.unary.UnaryOp.{UnaryOp}
 use Rattle.std.specs.Prelude.{ℤ, FitsSigned}
 use Rattle.std.specs.Int.{w64}
-use Rattle.value_ops.specs.declared.expr.Var.TheVariants as var
+use Rattle.expressions.specs.declared.expr.Var.TheVariants as var
 use Rattle.value_ops.specs.declared.scalar.Scalar.TheVariants.{Number}
 use Rattle.value_ops.specs.declared.value.Value.TheVariants as value
 use Rattle.value_ops.specs.declared.value.ValueType.{ValueType}
 use Rattle.value_ops.specs.declared.value.ValueType.TheVariants as type
-use Rattle.value_ops.specs.Evaluation.{Inputs, given, scalar_in, scalar_of, value_named, value_of}
-use Rattle.value_ops.specs.Expressions.{Expression, literal, read, unary, binary, choice, sum}
-use Rattle.value_ops.specs.Expressions.{count, most, least, entry, rec, part}
+use Rattle.expressions.specs.Evaluation.{Inputs, given, scalar_in, scalar_of, value_named, value_of}
+use Rattle.expressions.specs.Expressions.{Expression, literal, read, unary, binary, choice, sum}
+use Rattle.expressions.specs.Expressions.{count, most, least, entry, rec, part}
 use Rattle.value_ops.specs.Operators.{binary_of, unary_of}
 use Rattle.value_ops.specs.Types.{IsScalar}
-use Rattle.value_ops.specs.Typing.{Types, AreValues, HasType, IsNumber, types_of}
-use Rattle.value_ops.proofs.TypedNames.{scalar_named}
-use Rattle.value_ops.proofs.TypedValues.{typed_range}
+use Rattle.expressions.specs.Typing.{Types, AreValues, HasType, IsNumber, types_of}
+use Rattle.expressions.proofs.TypedNames.{scalar_named}
+use Rattle.expressions.proofs.TypedValues.{typed_range}
 use Rattle.query_model.specs.QueryTypes.{type_of_expression, type_or_number}
 
 -- the type of a well-typed expression

@@ -1,12 +1,13 @@
 -- The levels that are counted are those of the expression that would be made.
-use Rattle.std.proofs.Common.{◌≡◌, ◌≤◌, ◌<◌, ◌+◌, ◌-◌, ◌^◌, ℕ, max, min, Bool, true, false, refl, sym}
+use Rattle.std.proofs.Common.{◌≡◌, ◌≤◌, ◌<◌, ◌+◌, ◌-◌, ◌^◌, ℕ, max, min, Bool, true, false, refl}
+use Rattle.std.proofs.Common.{sym}
 use Rattle.std.proofs.Common.{arith}
 use Rattle.std.specs.Prelude.{nat_le}
 use Rattle.std.proofs.lemmas.Bool.{leb-true, le-leb, false_from_ne_true}
-use Rattle.value_ops.specs.declared.expr.Var.TheVariants as var
-use Rattle.value_ops.specs.Expressions.{Expression, literal, read, unary, binary, choice, sum}
-use Rattle.value_ops.specs.Expressions.{count, most, least, entry, rec, part, Expressions, none}
-use Rattle.value_ops.specs.Expressions.{more}
+use Rattle.expressions.specs.declared.expr.Var.TheVariants as var
+use Rattle.expressions.specs.Expressions.{Expression, literal, read, unary, binary, choice, sum}
+use Rattle.expressions.specs.Expressions.{count, most, least, entry, rec, part, Expressions, none}
+use Rattle.expressions.specs.Expressions.{more}
 use Rattle.query_rewrite.specs.Counting.{levels_with, most_with}
 use Rattle.query_rewrite.specs.Filling.{each_filled, filled}
 use Rattle.query_rewrite.specs.Levels.{levels_of, max_levels, most_levels}
@@ -86,7 +87,8 @@ pub levels_tested : (counted left : ℕ) (e d : Expression)
     → nat_le counted 62 ≡ nat_le (levels_of (filled e d)) max_levels
 levels_tested counted left e d left_is counted_is =
     let alone = levels_alone e in
-    let filled_is = levels_filled (2 ^ 32 - 1) left e (omega arith) (omega (arith, left_is, alone)) d
+    let filled_is =
+    levels_filled (2 ^ 32 - 1) left e (omega arith) (omega (arith, left_is, alone)) d
     in
     same_test counted (levels_of (filled e d)) (λ few. omega (arith, counted_is, filled_is, few))
     (λ few. omega (arith, counted_is, filled_is, few))

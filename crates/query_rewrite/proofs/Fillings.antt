@@ -4,22 +4,23 @@ use Rattle.std.proofs.Common.{◌≡◌, ◌∙◌, ◌+◌, ℕ, pos, Bool, tru
 use Rattle.std.proofs.Common.{None, Some, refl, ap, sym, subst}
 use Rattle.std.specs.Option.{option_and_then, option_map}
 use Rattle.std.proofs.lemmas.Bool.{or_parts}
-use Rattle.value_ops.specs.declared.expr.Var.{Var}
-use Rattle.value_ops.specs.declared.expr.Var.TheVariants as var
+use Rattle.expressions.specs.declared.expr.Var.{Var}
+use Rattle.expressions.specs.declared.expr.Var.TheVariants as var
 use Rattle.value_ops.specs.declared.scalar.Scalar.{Scalar}
 use Rattle.value_ops.specs.declared.value.Value.{Value}
 use Rattle.value_ops.specs.declared.value.Value.TheVariants as value
 use Rattle.value_ops.specs.declared.value.ValueType.{ValueType}
 use Rattle.value_ops.specs.declared.value.ValueType.TheVariants as type
-use Rattle.value_ops.specs.Evaluation.{Inputs, chosen_of, given, least_of, most_of, of_both, part_at}
-use Rattle.value_ops.specs.Evaluation.{record_in, scalar_at, scalar_in, scalar_of, scalars_of}
-use Rattle.value_ops.specs.Evaluation.{sum_of, table_in, value_named, value_of}
-use Rattle.value_ops.specs.Expressions.{Expression, literal, read, unary, binary, choice, sum}
-use Rattle.value_ops.specs.Expressions.{count, most, least, entry, rec, part, Expressions, none}
-use Rattle.value_ops.specs.Expressions.{more, count_of}
+use Rattle.expressions.specs.Evaluation.{Inputs, chosen_of, given, least_of, most_of, of_both}
+use Rattle.expressions.specs.Evaluation.{part_at}
+use Rattle.expressions.specs.Evaluation.{record_in, scalar_at, scalar_in, scalar_of, scalars_of}
+use Rattle.expressions.specs.Evaluation.{sum_of, table_in, value_named, value_of}
+use Rattle.expressions.specs.Expressions.{Expression, literal, read, unary, binary, choice, sum}
+use Rattle.expressions.specs.Expressions.{count, most, least, entry, rec, part, Expressions, none}
+use Rattle.expressions.specs.Expressions.{more, count_of}
 use Rattle.value_ops.specs.Operators.{binary_of, unary_of}
 use Rattle.value_ops.specs.Scalar.{in_range}
-use Rattle.value_ops.specs.Typing.{AreNumbers, HasPart, HasType, IsNumber, type_named}
+use Rattle.expressions.specs.Typing.{AreNumbers, HasPart, HasType, IsNumber, type_named}
 use Rattle.query_model.specs.Denotation.{on_one}
 use Rattle.query_model.specs.QueryTypes.{of_one}
 use Rattle.query_model.proofs.Inside.{same_inside}

@@ -4,7 +4,7 @@ use Rattle.std.specs.List.{AllByRecursion}
 use Rattle.value_ops.specs.declared.scalar.Scalar.{Scalar}
 use Rattle.value_ops.specs.declared.value.Value.{Value}
 use Rattle.value_ops.specs.declared.value.Value.TheVariants as value
-use Rattle.value_ops.specs.Expressions.{Expression}
+use Rattle.expressions.specs.Expressions.{Expression}
 use Rattle.item_schema.specs.declared.column.Column.{Column}
 use Rattle.rate_expr.specs.Words.{Word, IsWordOf, join}
 use Rattle.rate_expr.proofs.Wording.{word_parts, word_more}
@@ -46,7 +46,8 @@ module _ (columns : List Column) (D E : Word → Value → Type 0) (same : HaveS
     emits_mapped word items is (inr (none, empty)) =
         inr ((λ v den. none v ((same word v is).1 den)), empty)
 
-    pub outputs_mapped : (before word items : Word) → IsWordOf columns before → IsWordOf columns word
+    pub outputs_mapped : (before word items : Word) → IsWordOf columns before
+        → IsWordOf columns word
         → Outputs D before word items → Outputs E before word items
     outputs_mapped before [] items is rest emits = emits_mapped before items is emits
     outputs_mapped before (item ∷ word) items is rest (first, others, emits, outputs, whole) = (
@@ -58,7 +59,8 @@ module _ (columns : List Column) (D E : Word → Value → Type 0) (same : HaveS
       whole,
     )
 
-pub entries_mapped : (D E : List ℕ → Value → Type 0) → ((key : List ℕ) (v : Value) → D key v ↔ E key v)
+pub entries_mapped : (D E : List ℕ → Value → Type 0)
+    → ((key : List ℕ) (v : Value) → D key v ↔ E key v)
     → (keys : List (List ℕ)) (entries : List (List ℕ × Scalar)) → AreEntries D keys entries
     → AreEntries E keys entries
 entries_mapped D E same [] entries are = are

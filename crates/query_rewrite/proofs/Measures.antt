@@ -1,8 +1,8 @@
 -- How much there is to go through: each expression and each end of a list counts.
 use Rattle.std.proofs.Common.{ℕ, ◌+◌}
-use Rattle.value_ops.specs.Expressions.{Expression, literal, read, unary, binary, choice, sum}
-use Rattle.value_ops.specs.Expressions.{count, most, least, entry, rec, part, Expressions, none}
-use Rattle.value_ops.specs.Expressions.{more}
+use Rattle.expressions.specs.Expressions.{Expression, literal, read, unary, binary, choice, sum}
+use Rattle.expressions.specs.Expressions.{count, most, least, entry, rec, part, Expressions, none}
+use Rattle.expressions.specs.Expressions.{more}
 
 abbrev mutual
   pub weight_of : Expression → ℕ

@@ -1,12 +1,12 @@
 -- Two expressions, one applied after the other, are made one.
 use Rattle.std.proofs.Common.{◌≡◌, ◌≤◌, ◌↔◌, ◌∙◌, ◌+◌, ◌⊎◌, ℕ, List, [], Some, refl, ap, sym, subst}
 use Rattle.std.proofs.Common.{arith, inl, inr}
-use Rattle.value_ops.specs.declared.expr.Var.TheVariants.{Left}
+use Rattle.expressions.specs.declared.expr.Var.TheVariants.{Left}
 use Rattle.value_ops.specs.declared.value.Value.{Value}
 use Rattle.value_ops.specs.declared.value.ValueType.{ValueType}
 use Rattle.value_ops.specs.declared.value.ValueType.TheVariants as type
-use Rattle.value_ops.specs.Expressions.{Expression, read}
-use Rattle.value_ops.specs.Typing.{HasType}
+use Rattle.expressions.specs.Expressions.{Expression, read}
+use Rattle.expressions.specs.Typing.{HasType}
 use Rattle.item_schema.specs.declared.column.Column.{Column}
 use Rattle.rate_expr.specs.Words.{Word, IsWordOf}
 use Rattle.query_model.specs.Denotation.{Den, on_one}

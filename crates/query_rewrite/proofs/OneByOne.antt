@@ -1,7 +1,7 @@
 -- The query that the code makes is one that the query may be rewritten as.
 use Rattle.std.proofs.Common.{◌≡◌, ◌∙◌, Bool, true, false, refl, ap, subst}
 use Rattle.std.specs.Prelude.{if◌then◌else◌}
-use Rattle.value_ops.specs.Expressions.{Expression}
+use Rattle.expressions.specs.Expressions.{Expression}
 use Rattle.query_model.specs.Queries.{Qre, atom, eps, choice, split, iter, combine, apply, compose}
 use Rattle.query_model.specs.Queries.{collect}
 use Rattle.query_rewrite.specs.Filling.{filled}
@@ -23,7 +23,8 @@ choosing (choice f g) h =
 choosing f g = same (choice f g)
 
 turning : (f g h : Qre) (b : Bool) → turn g h ≡ b → Rewrites (compose f g) (fed f g)
-    → Rewrites (compose f (compose g h)) (if b then compose (fed f g) h else compose f (compose g h))
+    → Rewrites (compose f (compose g h))
+    (if b then compose (fed f g) h else compose f (compose g h))
 turning f g h true can first =
     twice _ (compose (compose f g) h) _ (turned_compose f g h (turn_is f g h can))
     (in_compose (compose f g) (fed f g) h h first (same h))

@@ -5,9 +5,9 @@ use Rattle.std.specs.List.{AllByRecursion}
 use Rattle.value_ops.specs.declared.scalar.Scalar.TheVariants.{Number}
 use Rattle.value_ops.specs.declared.value.Value.{Value}
 use Rattle.value_ops.specs.declared.value.Value.TheVariants as value
-use Rattle.value_ops.specs.Expressions.{Expression}
+use Rattle.expressions.specs.Expressions.{Expression}
 use Rattle.item_schema.specs.declared.column.Column.{Column}
-use Rattle.predicate_cells.specs.Predicates.{Predicate}
+use Rattle.predicates.specs.Predicates.{Predicate}
 use Rattle.rate_expr.specs.Language.{In}
 use Rattle.rate_expr.specs.Rates.{Regex, preds_of, size_of}
 use Rattle.rate_expr.specs.Readings.{HasOneFactoring}

@@ -1,9 +1,9 @@
 -- The parts of a record, each reduced or filled.
 use Rattle.std.proofs.Common.{◌≡◌, ◌∙◌, ◌≤◌, ℕ, List, [], ◌∷◌, length, map, take, refl, ap}
 use Rattle.std.proofs.lemmas.List.{take_all}
-use Rattle.value_ops.specs.declared.expr.Expr.{Expr, Rec}
-use Rattle.value_ops.specs.Expressions.{Expression, rec, more, all_of, plain_of, plain_parts}
-use Rattle.value_ops.proofs.RecordParts.{rec_of}
+use Rattle.expressions.specs.declared.expr.Expr.{Expr, Rec}
+use Rattle.expressions.specs.Expressions.{Expression, rec, more, all_of, plain_of, plain_parts}
+use Rattle.expressions.proofs.RecordParts.{rec_of}
 use Rattle.query_rewrite.specs.Filling.{each_filled, filled}
 use Rattle.query_rewrite.specs.Reducing.{each_reduced, reduced}
 
@@ -24,7 +24,8 @@ reduced_all parts made shown i end is so_far =
     ∙ ap rec (each_of parts)
 
 each_with : (inner : Expression) (parts : List Expr)
-    → all_of (map (λ part. filled inner (plain_of part)) parts) ≡ each_filled inner (plain_parts parts)
+    → all_of (map (λ part. filled inner (plain_of part)) parts)
+    ≡ each_filled inner (plain_parts parts)
 each_with inner [] = refl
 each_with inner (first ∷ rest) = ap (more (filled inner (plain_of first))) (each_with inner rest)
 

@@ -7,12 +7,12 @@ use Rattle.value_ops.specs.declared.value.Value.{Value}
 use Rattle.value_ops.specs.declared.value.Value.TheVariants as value
 use Rattle.value_ops.specs.declared.value.ValueType.{ValueType}
 use Rattle.value_ops.specs.declared.value.ValueType.TheVariants.{Number}
-use Rattle.value_ops.specs.Evaluation.{given, value_of}
-use Rattle.value_ops.specs.Expressions.{Expression}
+use Rattle.expressions.specs.Evaluation.{given, value_of}
+use Rattle.expressions.specs.Expressions.{Expression}
 use Rattle.value_ops.specs.Types.{IsValueOf}
-use Rattle.value_ops.specs.Typing.{HasType, types_of}
+use Rattle.expressions.specs.Typing.{HasType, types_of}
 use Rattle.item_schema.specs.declared.column.Column.{Column}
-use Rattle.predicate_cells.specs.Predicates.{Predicate}
+use Rattle.predicates.specs.Predicates.{Predicate}
 use Rattle.rate_expr.specs.Words.{Word, IsWordOf, join}
 use Rattle.rate_expr.proofs.Wording.{word_parts}
 use Rattle.query_model.specs.Denotation.{Den, Folds, on_both, on_one}
@@ -32,7 +32,8 @@ use Rattle.query_rewrite.proofs.Reductions.{KeepsType, number_reduced, typed_red
 
 -- What the reduced expression gives.
 
-on_item : (columns : List Column) (item : List Field) (e : Expression) → IsWordOf columns (item ∷ [])
+on_item : (columns : List Column) (item : List Field) (e : Expression)
+    → IsWordOf columns (item ∷ [])
     → IsTyped (of_columns columns) e
     → value_of (given item None None) (reduced e) ≡ value_of (given item None None) e
 on_item columns item e is typed =
@@ -201,7 +202,8 @@ module _ (columns : List Column) (D : Word → Value → Type 0) (ty : ValueType
     (each : OnValues columns D (λ word v. IsValueOf ty v))
     (typed : HasType (of_two Number ty) e Number) where
   is_typed : IsTyped (of_two Number ty) e
-  is_typed = subst (HasType (of_two Number ty) e) (sym (typed_type (of_two Number ty) e Number typed))
+  is_typed =
+      subst (HasType (of_two Number ty) e) (sym (typed_type (of_two Number ty) e Number typed))
       typed
 
   fold_there : (so_far : Value) (pieces : List Word) (v : Value) → IsValueOf Number so_far
@@ -215,7 +217,8 @@ module _ (columns : List Column) (D : Word → Value → Type 0) (ty : ValueType
         next,
         den,
         on_values Number ty so_far last e begins last_is is_typed ∙ gives,
-        fold_there next pieces v (two_ranges Number ty Number e so_far last next begins last_is typed
+        fold_there next pieces v
+        (two_ranges Number ty Number e so_far last next begins last_is typed
             gives) parts.1 folds,
       )
 

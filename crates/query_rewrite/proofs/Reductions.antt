@@ -12,14 +12,14 @@ use Rattle.value_ops.specs.declared.scalar.Scalar.TheVariants.{Number, Overflow,
 use Rattle.value_ops.specs.declared.value.Value.TheVariants as value
 use Rattle.value_ops.specs.declared.value.ValueType.{ValueType}
 use Rattle.value_ops.specs.declared.value.ValueType.TheVariants as type
-use Rattle.value_ops.specs.Evaluation.{Inputs, chosen_of, least_of, most_of, of_both, scalar_at}
-use Rattle.value_ops.specs.Evaluation.{scalar_of, scalars_of, table_in, value_named, value_of}
-use Rattle.value_ops.specs.Expressions.{Expression, literal, read, unary, binary, choice, sum}
-use Rattle.value_ops.specs.Expressions.{count, most, least, entry, rec, part, Expressions, none}
-use Rattle.value_ops.specs.Expressions.{more, count_of}
+use Rattle.expressions.specs.Evaluation.{Inputs, chosen_of, least_of, most_of, of_both, scalar_at}
+use Rattle.expressions.specs.Evaluation.{scalar_of, scalars_of, table_in, value_named, value_of}
+use Rattle.expressions.specs.Expressions.{Expression, literal, read, unary, binary, choice, sum}
+use Rattle.expressions.specs.Expressions.{count, most, least, entry, rec, part, Expressions, none}
+use Rattle.expressions.specs.Expressions.{more, count_of}
 use Rattle.value_ops.specs.Operators.{binary_of, unary_of}
 use Rattle.value_ops.specs.Types.{IsScalar}
-use Rattle.value_ops.specs.Typing.{Types, AreNumbers, HasType, IsNumber, types_of}
+use Rattle.expressions.specs.Typing.{Types, AreNumbers, HasType, IsNumber, types_of}
 use Rattle.query_model.specs.QueryTypes.{type_of_expression}
 use Rattle.query_model.specs.Rules.{IsTyped}
 use Rattle.query_rewrite.specs.Reducing.{literal_or, unary_reduced, binary_reduced, choice_reduced}

@@ -6,11 +6,11 @@ use Rattle.std.proofs.Math.Nat.{add-mul, le_of_mul-le-mul_left, mul-add, one-mul
 use Rattle.std.proofs.lemmas.Bool.{and_parts, both_ways, or_parts, le-leb, leb-true, not-true}
 use Rattle.std.proofs.lemmas.Bool.{false_from_ne_true, not_from_false}
 use Rattle.std.proofs.lemmas.Nat.{mul-le}
-use Rattle.value_ops.specs.declared.expr.Var.{Var}
-use Rattle.value_ops.specs.declared.expr.Var.TheVariants as var
-use Rattle.value_ops.specs.Expressions.{Expression, literal, read, unary, binary, choice, sum}
-use Rattle.value_ops.specs.Expressions.{count, most, least, entry, rec, part, Expressions, none}
-use Rattle.value_ops.specs.Expressions.{more}
+use Rattle.expressions.specs.declared.expr.Var.{Var}
+use Rattle.expressions.specs.declared.expr.Var.TheVariants as var
+use Rattle.expressions.specs.Expressions.{Expression, literal, read, unary, binary, choice, sum}
+use Rattle.expressions.specs.Expressions.{count, most, least, entry, rec, part, Expressions, none}
+use Rattle.expressions.specs.Expressions.{more}
 use Rattle.rate_expr.specs.Language.{In}
 use Rattle.rate_expr.specs.Rates as rate
 use Rattle.rate_expr.specs.Rates.{Regex}
@@ -193,8 +193,8 @@ in_empty (rate.choice left right) (inr second) =
     second_true (has_empty left) (has_empty right) (in_empty right second)
 in_empty (rate.star inner) in_rate = refl
 
--- Compositions that are grouped from the left: for each start of the first query and for one more, a
--- runner of the second and one of the third are kept in place of one of both.
+-- Compositions that are grouped from the left: for each start of the first query and for one more,
+-- a runner of the second and one of the third are kept in place of one of both.
 
 grown : (p s : ℕ) → (p + 1) * (1 + s) ≡ p * (s + 1) + (s + 1)
 grown p s =

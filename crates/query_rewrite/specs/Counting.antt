@@ -1,10 +1,10 @@
 -- For the prover. What the code finds out about expressions.
 use Rattle.std.specs.Prelude.{ℕ, ◌+◌, max, Bool, true, false}
-use Rattle.value_ops.specs.declared.expr.Var.{Var}
-use Rattle.value_ops.specs.declared.expr.Var.TheVariants as var
-use Rattle.value_ops.specs.Expressions.{Expression, literal, read, unary, binary, choice, sum}
-use Rattle.value_ops.specs.Expressions.{count, most, least, entry, rec, part, Expressions, none}
-use Rattle.value_ops.specs.Expressions.{more}
+use Rattle.expressions.specs.declared.expr.Var.{Var}
+use Rattle.expressions.specs.declared.expr.Var.TheVariants as var
+use Rattle.expressions.specs.Expressions.{Expression, literal, read, unary, binary, choice, sum}
+use Rattle.expressions.specs.Expressions.{count, most, least, entry, rec, part, Expressions, none}
+use Rattle.expressions.specs.Expressions.{more}
 use Rattle.query_rewrite.specs.declared.reading.Reading.{Reading}
 use Rattle.query_rewrite.specs.declared.reading.Reading.TheVariants.{Never, Once, Otherwise}
 

@@ -1,10 +1,10 @@
 -- Statement. An expression with another for its left value, and how often it reads that value.
 use Rattle.std.specs.Prelude.{ℕ, ◌+◌, Bool, true, false, ◌||◌}
-use Rattle.value_ops.specs.declared.expr.Var.{Var}
-use Rattle.value_ops.specs.declared.expr.Var.TheVariants as var
-use Rattle.value_ops.specs.Expressions.{Expression, literal, read, unary, binary, choice, sum}
-use Rattle.value_ops.specs.Expressions.{count, most, least, entry, rec, part, Expressions, none}
-use Rattle.value_ops.specs.Expressions.{more}
+use Rattle.expressions.specs.declared.expr.Var.{Var}
+use Rattle.expressions.specs.declared.expr.Var.TheVariants as var
+use Rattle.expressions.specs.Expressions.{Expression, literal, read, unary, binary, choice, sum}
+use Rattle.expressions.specs.Expressions.{count, most, least, entry, rec, part, Expressions, none}
+use Rattle.expressions.specs.Expressions.{more}
 
 abbrev mutual
   -- the second expression, with the first one wherever it reads the left value
@@ -60,7 +60,7 @@ abbrev mutual
   reads_of_all (more first rest) = reads_of first + reads_of_all rest
 
 abbrev mutual
-  -- the left value is the table of a table form or the record of a part, where only a name can stand
+  -- the left value is the table of a table form or the record of a part, where a name has to stand
   pub names_left : Expression → Bool
   names_left (literal number) = false
   names_left (read name) = false

@@ -1,11 +1,11 @@
 -- Statement. How many levels expressions, predicates and rates have as terms of a text. A text has
--- at most 64 levels, of which two stand above: that of a let or of the main query, and that of a node.
+-- at most 64 levels, of which two stand above: that of a let or the main query, and that of a node.
 use Rattle.std.specs.Prelude.{ℕ, ◌+◌, ◌≤◌, max}
-use Rattle.value_ops.specs.Expressions.{Expression, literal, read, unary, binary, choice, sum}
-use Rattle.value_ops.specs.Expressions.{count, most, least, entry, rec, part, Expressions, none}
-use Rattle.value_ops.specs.Expressions.{more}
-use Rattle.predicate_cells.specs.Predicates as test
-use Rattle.predicate_cells.specs.Predicates.{Predicate}
+use Rattle.expressions.specs.Expressions.{Expression, literal, read, unary, binary, choice, sum}
+use Rattle.expressions.specs.Expressions.{count, most, least, entry, rec, part, Expressions, none}
+use Rattle.expressions.specs.Expressions.{more}
+use Rattle.predicates.specs.Predicates as test
+use Rattle.predicates.specs.Predicates.{Predicate}
 use Rattle.rate_expr.specs.Rates as rate
 use Rattle.rate_expr.specs.Rates.{Regex}
 use Rattle.query_model.specs.Queries as query

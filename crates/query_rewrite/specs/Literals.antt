@@ -6,7 +6,7 @@ use Rattle.language_base.specs.declared.compare.Compare.{Compare}
 use Rattle.language_base.specs.declared.unary.UnaryOp.{UnaryOp}
 use Rattle.value_ops.specs.declared.scalar.Scalar.{Scalar}
 use Rattle.value_ops.specs.declared.scalar.Scalar.TheVariants.{Number, Overflow, DivZero}
-use Rattle.value_ops.specs.Expressions.{Expression, literal}
+use Rattle.expressions.specs.Expressions.{Expression, literal}
 use Rattle.value_ops.specs.Operators.{binary_of, unary_of}
 
 -- the number that a literal is

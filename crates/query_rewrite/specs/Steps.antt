@@ -1,7 +1,7 @@
 -- For the prover. The query that a query is rewritten as, operands first.
 use Rattle.std.specs.Prelude.{◌+◌, ◌*◌, Bool, true, false, not, ◌&&◌, ◌||◌, nat_le}
 use Rattle.std.specs.Prelude.{if◌then◌else◌}
-use Rattle.value_ops.specs.Expressions.{Expression, read}
+use Rattle.expressions.specs.Expressions.{Expression, read}
 use Rattle.rate_expr.specs.Rates as rate
 use Rattle.rate_expr.specs.Rates.{Regex}
 use Rattle.query_model.specs.Bounds.{places_of, slots_of, width_of}

@@ -3,13 +3,13 @@ ghost use Rattle.std.specs.Prelude.{◌≡◌, OnOk};
 ghost use Rattle.query_model.specs.Queries.{apply, plain_of};
 ghost use Rattle.query_rewrite.specs.Applies.{IsApply};
 ghost use Rattle.query_rewrite.specs.Steps.{applied};
-ghost use Rattle.value_ops.specs.Expressions as values;
+ghost use Rattle.expressions.specs.Expressions as values;
 
 use crate::merging::{can_merge, merge_into};
+use expressions::Expr;
 use query_model::{Query, Shape};
 use std::alloc::{AllocError, Global};
 use std::mem::replace;
-use value_ops::Expr;
 
 /// Takes expressions from the query into the one that is applied to it, as long as they are
 /// made one.

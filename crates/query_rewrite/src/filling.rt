@@ -2,11 +2,13 @@
 ghost use Rattle.std.specs.Prelude.{◌≡◌, IfOk, length};
 ghost use Rattle.few_parts.specs.Sizes.{IsRecordSize};
 ghost use Rattle.query_rewrite.specs.Filling.{each_filled, filled};
-ghost use Rattle.value_ops.specs.Expressions.{binary, choice, entry, least, most, plain_of};
-ghost use Rattle.value_ops.specs.Expressions.{plain_parts, rec, unary};
+ghost use Rattle.expressions.specs.Expressions.{binary, choice, entry, least, most, plain_of};
+ghost use Rattle.expressions.specs.Expressions.{plain_parts, rec, unary};
 
+use expressions::{Expr, Exprs, Var};
+use language_base::Compare;
 use std::alloc::{AllocError, Global};
-use value_ops::{BinaryOp, Bytes, Compare, Expr, Exprs, UnaryOp, Var};
+use value_ops::{BinaryOp, Bytes, UnaryOp};
 
 /// The outer expression with the inner one wherever it reads the left value.
 #[cycle(fill)]

@@ -1,9 +1,9 @@
 //! How many levels expressions have as terms.
 ghost use Rattle.std.specs.Prelude.{◌≡◌, ◌+◌, ◌-◌, ◌^◌, max, min};
 ghost use Rattle.query_rewrite.specs.Counting.{levels_with, most_with};
-ghost use Rattle.value_ops.specs.Expressions.{plain_of, plain_parts};
+ghost use Rattle.expressions.specs.Expressions.{plain_of, plain_parts};
 
-use value_ops::{Expr, Var};
+use expressions::{Expr, Var};
 
 /// The levels of the expression where the left value has `left` levels, at most 2^32 - 1.
 #[cycle(levels)]

@@ -2,9 +2,11 @@
 ghost use Rattle.std.specs.Prelude.{◌≡◌};
 ghost use Rattle.query_rewrite.specs.Literals.{binary_on, compared_on, literal_in, number_in};
 ghost use Rattle.query_rewrite.specs.Literals.{unary_on};
-ghost use Rattle.value_ops.specs.Expressions.{plain_of};
+ghost use Rattle.expressions.specs.Expressions.{plain_of};
 
-use value_ops::{BinaryOp, Compare, Expr, Scalar, UnaryOp};
+use expressions::Expr;
+use language_base::Compare;
+use value_ops::{BinaryOp, Scalar, UnaryOp};
 
 /// What the operator gives on the operand, if that is a literal and it is a number.
 pub(crate) fn known_unary(op: UnaryOp, inner: &Expr) -> Option<i64>

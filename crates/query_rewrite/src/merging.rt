@@ -3,15 +3,15 @@ ghost use Rattle.std.specs.Prelude.{◌≡◌, IfOk, OnOk};
 ghost use Rattle.query_rewrite.specs.Filling.{filled};
 ghost use Rattle.query_rewrite.specs.Reducing.{reduced};
 ghost use Rattle.query_rewrite.specs.Steps.{is_left_value, merge, merged};
-ghost use Rattle.value_ops.specs.Expressions.{plain_of};
+ghost use Rattle.expressions.specs.Expressions.{plain_of};
 
 use crate::filling::filled;
 use crate::levels::levels_of;
 use crate::reading::reading_of;
 use crate::reducing::reduced;
+use expressions::{Expr, Var};
 use std::alloc::{AllocError, Global};
 use std::mem::swap;
-use value_ops::{Expr, Var};
 
 /// The most levels that fit under a node of a let.
 pub(crate) const MAX_LEVELS: u32 = 62;

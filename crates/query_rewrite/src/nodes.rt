@@ -1,20 +1,20 @@
 //! Queries rewritten node by node, operands first.
 ghost use Rattle.std.specs.Prelude.{◌≡◌, IfOk};
-ghost use Rattle.predicate_cells.specs.Plain as predicates;
+ghost use Rattle.predicates.specs.Plain as predicates;
 ghost use Rattle.query_model.specs.Queries.{atom, collect, combine, iter, plain_of, split};
 ghost use Rattle.query_rewrite.specs.Reducing.{reduced};
 ghost use Rattle.query_rewrite.specs.Steps.{applied, chosen, fed, rewritten};
 ghost use Rattle.rate_expr.specs.Plain as rates;
-ghost use Rattle.value_ops.specs.Expressions as values;
+ghost use Rattle.expressions.specs.Expressions as values;
 
 use crate::applying::merge_applies;
 use crate::grouping::{group_from_left, group_from_right};
 use crate::reducing::reduced;
-use predicate_cells::Pred;
+use expressions::Expr;
+use predicates::Pred;
 use query_model::{KeyColumns, Query, Shape, Span};
 use rate_expr::Rate;
 use std::alloc::{AllocError, Global};
-use value_ops::Expr;
 
 /// The query with each rule applied at each node; each node has the place of the one that
 /// it is made of.

@@ -2,9 +2,9 @@
 ghost use Rattle.std.specs.Prelude.{◌≡◌};
 ghost use Rattle.query_rewrite.specs.Counting.{as_whole, both_read, is_read_once, reading_of};
 ghost use Rattle.query_rewrite.specs.Counting.{reading_of_all};
-ghost use Rattle.value_ops.specs.Expressions.{plain_of, plain_parts};
+ghost use Rattle.expressions.specs.Expressions.{plain_of, plain_parts};
 
-use value_ops::{Expr, Var};
+use expressions::{Expr, Var};
 
 /// How often, and as what.
 #[derive(Clone, Copy)]

@@ -3,11 +3,13 @@ ghost use Rattle.std.specs.Prelude.{◌≡◌, IfOk, length};
 ghost use Rattle.few_parts.specs.Sizes.{IsRecordSize};
 ghost use Rattle.query_rewrite.specs.Reducing.{binary_reduced, choice_reduced, each_reduced};
 ghost use Rattle.query_rewrite.specs.Reducing.{reduced, unary_reduced};
-ghost use Rattle.value_ops.specs.Expressions.{entry, least, most, plain_of, plain_parts, rec};
+ghost use Rattle.expressions.specs.Expressions.{entry, least, most, plain_of, plain_parts, rec};
 
 use crate::literals::{known_binary, known_comparison, known_unary};
+use expressions::{Expr, Exprs, Var};
+use language_base::Compare;
 use std::alloc::{AllocError, Global};
-use value_ops::{BinaryOp, Bytes, Compare, Expr, Exprs, UnaryOp, Var};
+use value_ops::{BinaryOp, Bytes, UnaryOp};
 
 /// The expression, reduced.
 #[cycle(reduce)]

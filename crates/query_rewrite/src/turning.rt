@@ -5,12 +5,12 @@ ghost use Rattle.query_model.specs.Queries.{plain_of};
 ghost use Rattle.query_model.specs.Rates.{rate_of};
 ghost use Rattle.query_rewrite.specs.Steps.{has_empty, turn};
 ghost use Rattle.rate_expr.specs.Plain as rates;
-ghost use Rattle.value_ops.specs.Expressions as expr;
+ghost use Rattle.expressions.specs.Expressions as expr;
 
+use expressions::{Expr, Var};
 use memory_bound::{places, slots};
 use query_model::{Query, Shape};
 use rate_expr::Rate;
-use value_ops::{Expr, Var};
 
 /// Whether a composition of something with a composition of these two may be grouped from
 /// the left: the first has no value on no items, and no more is kept.

@@ -1,8 +1,8 @@
 -- Automata whose states are met by items, for the proofs alone.
 use Rattle.std.proofs.Common.{◌≡◌, ◌⊎◌, inl, inr, Bool, true, false, ◌&&◌, ◌||◌, List, [], ◌∷◌}
 use Rattle.value_ops.specs.declared.field.Field.{Field}
-use Rattle.predicate_cells.specs.Predicates.{Predicate}
-use Rattle.predicate_cells.specs.Truth.{holds}
+use Rattle.predicates.specs.Predicates.{Predicate}
+use Rattle.predicates.specs.Truth.{holds}
 use Rattle.rate_expr.specs.Rates.{Regex, empty, one, sequence, choice, star}
 use Rattle.rate_expr.specs.Words.{Word}
 

@@ -4,7 +4,7 @@ use Rattle.std.proofs.Common.{length, sym, ap, ◌∙◌, subst, length-append, 
 use Rattle.std.proofs.lemmas.List.{length-map}
 use Rattle.std.proofs.lemmas.Nat.{or_lt}
 use Rattle.std.specs.List.{AllByRecursion}
-use Rattle.predicate_cells.specs.Predicates.{Predicate}
+use Rattle.predicates.specs.Predicates.{Predicate}
 use Rattle.rate_expr.specs.declared.part.Part.{Part}
 use Rattle.rate_expr.specs.FirstLastFollow.{AreSetsOf, IsFirst, IsLast, IsFollowedBy}
 use Rattle.rate_expr.specs.Joined.{moved, ends_of, ends_after, with_ends, with_links, beside}

@@ -1,6 +1,6 @@
 -- The sets that are made of a rate are its own.
 use Rattle.std.proofs.Common.{◌≡◌, ◌≤◌, ℕ, List, [], ◌++◌, length, sym, ap, ◌∙◌, subst}
-use Rattle.predicate_cells.specs.Predicates.{Predicate}
+use Rattle.predicates.specs.Predicates.{Predicate}
 use Rattle.rate_expr.specs.declared.part.Part.{Part}
 use Rattle.rate_expr.specs.Parts.{part_of, follow_of}
 use Rattle.rate_expr.specs.FirstLastFollow.{AreSetsOf}

@@ -4,8 +4,8 @@ use Rattle.std.proofs.Common.{length, slice_get, Some, refl, sym, ap, ◌∙◌,
 use Rattle.std.proofs.Common.{length-append, arith}
 use Rattle.std.proofs.lemmas.List.{append-nil}
 use Rattle.value_ops.specs.declared.field.Field.{Field}
-use Rattle.predicate_cells.specs.Predicates.{Predicate}
-use Rattle.predicate_cells.specs.Truth.{holds}
+use Rattle.predicates.specs.Predicates.{Predicate}
+use Rattle.predicates.specs.Truth.{holds}
 use Rattle.rate_expr.specs.Rates.{Regex, empty, one, sequence, choice, star, size_of, preds_of}
 use Rattle.rate_expr.proofs.Automata.{Automaton, MeetEither, automaton_of}
 use Rattle.rate_expr.proofs.Numbers.{either_number, number_of}

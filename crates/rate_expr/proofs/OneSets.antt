@@ -1,7 +1,7 @@
 -- A rate has one first, one last and one follow set.
 use Rattle.std.proofs.Common.{◌≡◌, ℕ, zero, suc, ◌↔◌, Bool, List, [], ◌∷◌, length, refl, sym, ap}
 use Rattle.std.proofs.Common.{◌∙◌, subst, arith}
-use Rattle.predicate_cells.specs.Predicates.{Predicate}
+use Rattle.predicates.specs.Predicates.{Predicate}
 use Rattle.rate_expr.specs.FirstLastFollow.{AreSetsOf}
 use Rattle.rate_expr.specs.Rates.{Regex}
 use Rattle.rate_expr.specs.Sets.{Sets, AreSets, Has}

@@ -8,7 +8,7 @@ use Rattle.std.proofs.lemmas.Option.{get_or_from_slice_get, slice_get-get_or, sl
 use Rattle.std.proofs.lemmas.Option.{slice_get_within}
 use Rattle.std.specs.List.{Contains}
 use Rattle.std.specs.Option.{option_map}
-use Rattle.predicate_cells.specs.Predicates.{Predicate, any}
+use Rattle.predicates.specs.Predicates.{Predicate, any}
 use Rattle.rate_expr.specs.Shared.{Shared, listed, AreShared}
 use Rattle.rate_expr.proofs.MaskSets.{below-more}
 

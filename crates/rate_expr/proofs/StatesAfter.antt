@@ -4,8 +4,8 @@ use Rattle.std.proofs.Common.{◌∷◌, length, bit_or, refl, sym, ap, subst, a
 use Rattle.std.proofs.Math.Nat.{eq-or-lt_of_le}
 use Rattle.std.proofs.lemmas.Bool.Decides.{eqb_tells}
 use Rattle.value_ops.specs.declared.field.Field.{Field}
-use Rattle.predicate_cells.specs.Predicates.{Predicate}
-use Rattle.predicate_cells.specs.Truth.{holds}
+use Rattle.predicates.specs.Predicates.{Predicate}
+use Rattle.predicates.specs.Truth.{holds}
 use Rattle.rate_expr.specs.After.{IsStateOf, IsAfter}
 use Rattle.rate_expr.specs.Paths.{Follows, Meets, LeadsOn, Leads}
 use Rattle.rate_expr.specs.Sets.{Sets, Has}

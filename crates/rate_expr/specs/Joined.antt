@@ -1,6 +1,6 @@
 -- For the prover. The sets of a rate, put together from the sets of its parts.
 use Rattle.std.specs.Prelude.{◌*◌, ◌%◌, ◌^◌, ℕ, true, false, [], ◌∷◌, ◌++◌, map, length}
-use Rattle.predicate_cells.specs.Predicates.{Predicate}
+use Rattle.predicates.specs.Predicates.{Predicate}
 use Rattle.rate_expr.specs.declared.part.Part.{Part}
 use Rattle.rate_expr.specs.Parts.{all_linked, of_choice, of_sequence, of_star}
 use Rattle.rate_expr.specs.Sets.{Sets}

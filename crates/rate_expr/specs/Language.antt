@@ -2,7 +2,7 @@
 use Rattle.std.specs.Prelude.{◌≡◌, ◌⊎◌, true, List, [], ◌∷◌, ◌++◌}
 use Rattle.std.specs.List.{AllByRecursion}
 use Rattle.value_ops.specs.declared.field.Field.{Field}
-use Rattle.predicate_cells.specs.Truth.{holds}
+use Rattle.predicates.specs.Truth.{holds}
 use Rattle.rate_expr.specs.Rates.{Regex, empty, one, sequence, choice, star}
 use Rattle.rate_expr.specs.Words.{Word, join}
 

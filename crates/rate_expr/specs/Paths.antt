@@ -1,8 +1,8 @@
 -- Statement. The paths of positions that words spell.
 use Rattle.std.specs.Prelude.{◌≡◌, ℕ, true, List, [], ◌∷◌, Some, slice_get}
 use Rattle.value_ops.specs.declared.field.Field.{Field}
-use Rattle.predicate_cells.specs.Predicates.{Predicate}
-use Rattle.predicate_cells.specs.Truth.{holds}
+use Rattle.predicates.specs.Predicates.{Predicate}
+use Rattle.predicates.specs.Truth.{holds}
 use Rattle.rate_expr.specs.Language.{In}
 use Rattle.rate_expr.specs.Rates.{Regex}
 use Rattle.rate_expr.specs.Sets.{Sets, Has}

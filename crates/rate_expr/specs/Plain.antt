@@ -1,5 +1,5 @@
 -- Statement. A rate in memory as an expression.
-use Rattle.predicate_cells.specs.Plain as predicate
+use Rattle.predicates.specs.Plain as predicate
 use Rattle.rate_expr.specs.Rates as plain
 use Rattle.rate_expr.specs.declared.rate.Rate.{Rate}
 use Rattle.rate_expr.specs.declared.rate.Rate.TheVariants.{Empty, One, Seq', Alt', Star'}

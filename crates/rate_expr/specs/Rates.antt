@@ -1,6 +1,6 @@
 -- Statement. Rates as expressions, regardless of how they lie in memory.
 use Rattle.std.specs.Prelude.{ℕ, ◌+◌, List, [], ◌∷◌, ◌++◌}
-use Rattle.predicate_cells.specs.Predicates.{Predicate}
+use Rattle.predicates.specs.Predicates.{Predicate}
 
 -- a regular expression over predicates on items
 pub data Regex : Type 0 where

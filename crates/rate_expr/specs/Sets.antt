@@ -3,7 +3,7 @@ use Rattle.std.specs.Prelude.{◌≡◌, ◌≤◌, ◌<◌, ◌^◌, ℕ, Bool,
 use Rattle.std.specs.Int.{bit_at}
 use Rattle.std.specs.List.{AllByRecursion}
 use Rattle.language_base.specs.Limits.{max_positions}
-use Rattle.predicate_cells.specs.Predicates.{Predicate}
+use Rattle.predicates.specs.Predicates.{Predicate}
 
 -- whether the empty word is in the rate, at which positions words begin and end, which positions
 -- may follow each position, and which predicate each has; a set of positions is a mask

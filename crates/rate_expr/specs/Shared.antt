@@ -1,6 +1,6 @@
 -- Statement. Lists of predicates in which equal ones are kept once.
 use Rattle.std.specs.Prelude.{◌≡◌, ◌<◌, ℕ, List, Some, length, map, get_or, slice_get}
-use Rattle.predicate_cells.specs.Predicates.{Predicate, any}
+use Rattle.predicates.specs.Predicates.{Predicate, any}
 
 -- the distinct predicates, and for each predicate of the list its place among them
 pub record Shared : Type 0 where

@@ -1,7 +1,7 @@
 //! The sets of a rate, from those of its parts.
 ghost use Rattle.std.specs.Prelude.{◌≡◌, ◌+◌, ◌<◌, ◌≤◌, [], ◌∷◌, ◌++◌, length, IfOk, OnOk};
 ghost use Rattle.language_base.specs.Limits.{max_positions};
-ghost use Rattle.predicate_cells.specs.Plain as predicates;
+ghost use Rattle.predicates.specs.Plain as predicates;
 ghost use Rattle.rate_expr.specs.Parts.{part_of, follow_of, of_one};
 ghost use Rattle.rate_expr.specs.Plain.{plain_of};
 ghost use Rattle.rate_expr.specs.Rates.{preds_of, sequence, size_of};
@@ -11,7 +11,7 @@ use crate::links::link;
 use crate::part::Part;
 use crate::rate::Rate;
 use crate::shared_preds::SharedPreds;
-use predicate_cells::Pred;
+use predicates::Pred;
 use std::alloc::AllocError;
 
 /// Appends the positions of a rate to those of others, and says where its words begin and end.

@@ -2,7 +2,7 @@
 //! of the rate is read along a path of positions, one for each item.
 ghost use Rattle.std.specs.Prelude.{◌≡◌, ◌+◌, ◌<◌, ◌≤◌, ◌^◌, Some, IfOk, length, slice_get};
 ghost use Rattle.language_base.specs.Limits.{max_positions};
-ghost use Rattle.predicate_cells.specs.Plain.{plain_of};
+ghost use Rattle.predicates.specs.Plain.{plain_of};
 ghost use Rattle.rate_expr.specs.FirstLastFollow.{AreSetsOf};
 ghost use Rattle.rate_expr.specs.Joined.{beside, ends_of, with_ends, with_links};
 ghost use Rattle.rate_expr.specs.Paths.{AreOf};
@@ -16,7 +16,7 @@ use crate::links::{append, link};
 use crate::part::Part;
 use crate::rate::Rate;
 use crate::shared_preds::SharedPreds;
-use predicate_cells::Pred;
+use predicates::Pred;
 use std::alloc::{AllocError, Global};
 use std::marker::Model;
 
@@ -33,7 +33,7 @@ pub struct Positions {
 
 impl Model for Positions {
     ghost use Rattle.std.specs.Coded.{codes};
-    ghost use Rattle.predicate_cells.specs.Coding.{coded_predicate};
+    ghost use Rattle.predicates.specs.Coding.{coded_predicate};
     ghost use Rattle.rate_expr.specs.Sets.{Sets, AreSets};
     ghost use Rattle.rate_expr.specs.Shared.{listed, AreShared};
 

@@ -1,7 +1,7 @@
 //! Regular expressions over predicates on items.
 ghost use Rattle.std.specs.Prelude.{◌≡◌, ◌-◌, ◌^◌, min, IfOk};
 
-use predicate_cells::Pred;
+use predicates::Pred;
 use std::alloc::{AllocError, Global};
 
 /// The most positions that a rate may have.
@@ -23,7 +23,7 @@ pub enum Rate {
 }
 
 impl Rate {
-    ghost use Rattle.predicate_cells.specs.Plain as predicates;
+    ghost use Rattle.predicates.specs.Plain as predicates;
     ghost use Rattle.rate_expr.specs.Plain.{plain_of};
     ghost use Rattle.rate_expr.specs.Rates.{one, size_of};
 

@@ -2,12 +2,12 @@
 ghost use Rattle.std.specs.Prelude.{◌≡◌, ◌↔◌, ◌<◌, ◌≤◌, ◌++◌, ◌∷◌, [], ℕ, Some, IfOk, OnOk, length};
 ghost use Rattle.std.specs.Prelude.{slice_get};
 ghost use Rattle.language_base.specs.Limits.{max_positions};
-ghost use Rattle.predicate_cells.specs.Plain.{plain_of};
+ghost use Rattle.predicates.specs.Plain.{plain_of};
 ghost use Rattle.rate_expr.specs.Sets.{Has};
 ghost use Rattle.rate_expr.specs.Shared.{listed, AreShared};
 
 use crate::masks::only;
-use predicate_cells::{Pred, Preds};
+use predicates::{Pred, Preds};
 use std::alloc::{AllocError, Global};
 use std::marker::Model;
 
@@ -21,7 +21,7 @@ pub struct SharedPreds {
 
 impl Model for SharedPreds {
     ghost use Rattle.std.specs.Coded.{codes};
-    ghost use Rattle.predicate_cells.specs.Coding.{coded_predicate};
+    ghost use Rattle.predicates.specs.Coding.{coded_predicate};
     ghost use Rattle.rate_expr.specs.Shared.{Shared};
 
     ghost Value = { Shared };

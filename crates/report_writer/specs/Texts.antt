@@ -8,9 +8,9 @@ use Rattle.value_ops.specs.declared.scalar.Scalar.{Scalar}
 use Rattle.value_ops.specs.declared.scalar.Scalar.TheVariants.{Number, Overflow, DivZero}
 use Rattle.value_ops.specs.declared.value.Value.{Value}
 use Rattle.value_ops.specs.declared.value.Value.TheVariants as value
-use Rattle.item_schema.specs.declared.stop.Cause.{Cause}
-use Rattle.item_schema.specs.declared.stop.Cause.TheVariants as cause
-use Rattle.item_schema.specs.declared.stop.Skip.{Skip}
+use Rattle.line_reader.specs.declared.stop.Cause.{Cause}
+use Rattle.line_reader.specs.declared.stop.Cause.TheVariants as cause
+use Rattle.line_reader.specs.declared.stop.Skip.{Skip}
 use Rattle.language_base.specs.declared.refusal.Refusal.{Refusal}
 use Rattle.language_base.specs.declared.rule.Rule.{Rule}
 use Rattle.language_base.specs.declared.rule.Rule.TheVariants.{Long, Token, Term, Depth, Form, Name}

@@ -3,8 +3,8 @@ ghost use Rattle.std.specs.Io.{StartsWith};
 ghost use Rattle.std.specs.Prelude.{◌≡◌, ◌++◌, OnOk, OnErr, decimal};
 ghost use Rattle.report_writer.specs.Texts.{skip_text, cause_name};
 
-use item_schema::{Cause, Skip};
 use itoa::Buffer;
+use line_reader::{Cause, Skip};
 use std::alloc::AllocError;
 
 /// Appends the cause by its name, and the column.

@@ -3,6 +3,7 @@ pub mod Headed
 pub mod KeyReads
 pub mod Readers
 pub mod ReadNumbers
+pub mod ReadAnswers
 pub mod ReadValues
 pub mod ReadNodes
 pub mod NodeReads

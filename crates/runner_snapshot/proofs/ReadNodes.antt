@@ -33,7 +33,8 @@ use Rattle.runner_snapshot.specs.Tags.{node_byte, node_tag, node_tags}
 use Rattle.runner_snapshot.proofs.Readers.{IsBytes, IsBytes-rest, Takes, Reads, both, made}
 use Rattle.runner_snapshot.proofs.Readers.{arm_takes, arm_again, alone_takes, tagged_takes}
 use Rattle.runner_snapshot.proofs.ReadNumbers.{counted, number64, states, texts}
-use Rattle.runner_snapshot.proofs.ReadValues.{answers, found_meets, values}
+use Rattle.runner_snapshot.proofs.ReadAnswers.{answers}
+use Rattle.runner_snapshot.proofs.ReadValues.{found_meets, values}
 
 -- a byte that says a node is the byte of its tag
 known_node : (byte : ℕ) (tag : NodeTag) → node_tag byte ≡ Some tag → node_byte tag ≡ byte

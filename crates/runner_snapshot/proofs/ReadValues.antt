@@ -1,4 +1,4 @@
--- Scalars, values and answers are read as they are spelled.
+-- Scalars and values are read as they are spelled.
 use Rattle.std.proofs.Common.{◌≡◌, ◌<◌, ◌^◌, ℕ, zero, suc, ℤ, pos, negsuc, Bool, true, false}
 use Rattle.std.proofs.Common.{cond}
 use Rattle.std.proofs.Common.{eqb, leb, ◌&&◌, ◌||◌, List, [], ◌∷◌, ◌++◌, length, Option, None}
@@ -57,7 +57,7 @@ found_meets test (x ∷ xs) found e =
     found_first test x found (find test xs) (test x) refl e (found_meets test xs found)
 
 -- a byte that says a value is the byte of its tag
-known_value : (byte : ℕ) (tag : ValueTag) → value_tag byte ≡ Some tag → value_byte tag ≡ byte
+pub known_value : (byte : ℕ) (tag : ValueTag) → value_tag byte ≡ Some tag → value_byte tag ≡ byte
 known_value byte tag e =
     eqb-true (value_byte tag) byte
     (found_meets (λ (one : ValueTag). eqb (value_byte one) byte) value_tags tag e)
@@ -345,7 +345,7 @@ value_from_scalar tag bytes x rest are_bytes e =
     subst (λ (r : Value × List ℕ). SpelledValue (value_byte tag ∷ bytes) r.0 r.1)
     (same_Some it (x, rest) a.2) front
 
-value_after : (tag : ValueTag) (bytes : List ℕ) (x : Value) (rest : List ℕ) → IsBytes bytes
+pub value_after : (tag : ValueTag) (bytes : List ℕ) (x : Value) (rest : List ℕ) → IsBytes bytes
     → value_of (Some tag) bytes ≡ Some (x, rest) → SpelledValue (value_byte tag ∷ bytes) x rest
 unfolding value_of
 value_after tag.Number bytes x rest are_bytes e = value_from_scalar tag.Number bytes x rest
@@ -375,7 +375,7 @@ value_takes bytes x rest are_bytes e =
     bytes x rest are_bytes e
 
 -- a value that is no scalar, and a scalar
-value_again : (x : Value) (rest : List ℕ) → IsValue x
+pub value_again : (x : Value) (rest : List ℕ) → IsValue x
     → value_read_at (value_bytes x ++ rest) ≡ Some (x, rest)
 unfolding value_read_at value_of scalar_of
 value_again (value.Scalar (scalar.Number number)) rest is =
@@ -391,67 +391,3 @@ value_again (value.Rec xs) rest is =
 
 pub values : Reads value_bytes IsValue value_read_at
 values = record { takes = value_takes; again = value_again }
-
--- ---- answers
-
-abbrev SpelledAnswer : List ℕ → Option Value → List ℕ → Type 0
-SpelledAnswer bytes x rest = Takes bytes (answer_bytes x) rest × IsAnswer x
-
-answer_from_value : (tag : ValueTag) (bytes : List ℕ) (x : Option Value) (rest : List ℕ)
-    → IsBytes bytes → made_at Some (value_of (Some tag)) bytes ≡ Some (x, rest)
-    → SpelledAnswer (value_byte tag ∷ bytes) x rest
-answer_from_value tag bytes x rest are_bytes e =
-    let a = bind_some (value_of (Some tag) bytes) (λ y. Some (Some y.0, y.1)) (x, rest) e in
-    let front = value_after tag bytes a.0.0 a.0.1 are_bytes a.1 in
-    let it : Option Value × List ℕ = (Some a.0.0, a.0.1) in
-    subst (λ (r : Option Value × List ℕ). SpelledAnswer (value_byte tag ∷ bytes) r.0 r.1)
-    (same_Some it (x, rest) a.2) front
-
-answer_after : (tag : ValueTag) (bytes : List ℕ) (x : Option Value) (rest : List ℕ)
-    → IsBytes bytes → answer_of (Some tag) bytes ≡ Some (x, rest)
-    → SpelledAnswer (value_byte tag ∷ bytes) x rest
-unfolding answer_of
-answer_after tag.Number bytes x rest are_bytes e =
-    answer_from_value tag.Number bytes x rest are_bytes e
-answer_after tag.Overflow bytes x rest are_bytes e =
-    answer_from_value tag.Overflow bytes x rest are_bytes e
-answer_after tag.DivZero bytes x rest are_bytes e =
-    answer_from_value tag.DivZero bytes x rest are_bytes e
-answer_after tag.Table bytes x rest are_bytes e =
-    answer_from_value tag.Table bytes x rest are_bytes e
-answer_after tag.Rec bytes x rest are_bytes e = answer_from_value tag.Rec bytes x rest are_bytes e
-answer_after tag.Absent bytes x rest are_bytes e =
-    alone_takes None answer_bytes IsAnswer 255 refl tt bytes x rest are_bytes e
-
-no_answer : (rest : List ℕ) → answer_of None rest ≡ None
-unfolding answer_of value_of scalar_of
-no_answer rest = refl
-
-answer_takes : (bytes : List ℕ) (x : Option Value) (rest : List ℕ) → IsBytes bytes
-    → answer_at bytes ≡ Some (x, rest) → SpelledAnswer bytes x rest
-unfolding answer_at
-answer_takes bytes x rest are_bytes e =
-    tagged_takes value_tag value_byte known_value answer_of no_answer answer_bytes IsAnswer
-    answer_after bytes x rest are_bytes e
-
--- an answer that is there is read as its value
-answer_is_value : (x : Value) (rest : List ℕ)
-    → answer_at (value_bytes x ++ rest)
-    ≡ (value_read_at (value_bytes x ++ rest) >>= λ y. Some (Some y.0, y.1))
-unfolding answer_at answer_of value_read_at
-answer_is_value (value.Scalar (scalar.Number number)) rest = refl
-answer_is_value (value.Scalar scalar.Overflow) rest = refl
-answer_is_value (value.Scalar scalar.DivZero) rest = refl
-answer_is_value (value.Table held) rest = refl
-answer_is_value (value.Rec xs) rest = refl
-
-answer_again : (x : Option Value) (rest : List ℕ) → IsAnswer x
-    → answer_at (answer_bytes x ++ rest) ≡ Some (x, rest)
-unfolding answer_at answer_of
-answer_again None rest is = refl
-answer_again (Some x) rest is =
-    answer_is_value x rest
-    ∙ ap (λ (r : Read Value). r >>= λ y. Some (Some y.0, y.1)) (value_again x rest is)
-
-pub answers : Reads answer_bytes IsAnswer answer_at
-answers = record { takes = answer_takes; again = answer_again }

@@ -2,7 +2,7 @@
 use Rattle.std.specs.Prelude.{◌≡◌, ◌<◌, ◌↔◌, ℕ, IsTrue, List, map, length, Ok}
 use Rattle.std.specs.List.{list_all}
 use Rattle.value_ops.specs.declared.value.Value.{Value}
-use Rattle.item_schema.specs.Reading.{item_of}
+use Rattle.line_reader.specs.Reading.{item_of}
 use Rattle.item_schema.specs.declared.column.Column.{Column}
 use Rattle.rate_expr.specs.Language.{In}
 use Rattle.rate_expr.specs.Words.{Word, IsWordOf}

@@ -8,7 +8,8 @@ ghost use Rattle.rate_expr.specs.Plain as rates;
 ghost use Rattle.separating_word.specs.Pairs.{AreOfRates, AreOver};
 
 use item_schema::Schema;
-use predicate_cells::{CellStop, Cells, Preds};
+use predicate_cells::{CellStop, Cells};
+use predicates::Preds;
 use query_model::{Checked, Query};
 use rate_expr::{MAX_POSITIONS, Positions, Rate};
 use std::alloc::{AllocError, Global};

@@ -6,8 +6,9 @@ ghost use Rattle.rate_expr.specs.Words.{IsWordOf};
 ghost use Rattle.separating_word.specs.Findings.{Finds, FindsOn};
 ghost use Rattle.separating_word.specs.Separations.{AreRead};
 
-use item_schema::{Item, ItemStop, Schema, read_item};
+use item_schema::{Item, Schema};
 use language_base::Bytes;
+use line_reader::{ItemStop, read_item};
 use query_model::Checked;
 use slow_eval::answer_on;
 use std::alloc::{AllocError, Global};

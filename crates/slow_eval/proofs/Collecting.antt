@@ -9,7 +9,7 @@ use Rattle.value_ops.specs.declared.value.Value.{Value}
 use Rattle.value_ops.specs.declared.value.Value.TheVariants as value
 use Rattle.value_ops.specs.declared.value.ValueType.TheVariants.{Number}
 use Rattle.value_ops.specs.Types.{IsValueOf}
-use Rattle.predicate_cells.specs.Predicates.{Predicate}
+use Rattle.predicates.specs.Predicates.{Predicate}
 use Rattle.rate_expr.specs.Language.{In}
 use Rattle.rate_expr.specs.Rates as rate
 use Rattle.rate_expr.specs.Words.{Word}

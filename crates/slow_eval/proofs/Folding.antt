@@ -2,7 +2,7 @@
 use Rattle.std.proofs.Common.{append_assoc, append-nil, ◌≡◌, ◌++◌, ◌∙◌, List, [], ◌∷◌, Some, refl}
 use Rattle.std.proofs.Common.{sym, subst, ap, ◌⊎◌, inl, inr}
 use Rattle.value_ops.specs.declared.value.Value.{Value}
-use Rattle.value_ops.specs.Expressions.{Expression}
+use Rattle.expressions.specs.Expressions.{Expression}
 use Rattle.rate_expr.specs.Words.{Word, join}
 use Rattle.query_model.specs.Denotation.{Folds, on_both}
 

@@ -1,7 +1,7 @@
 -- Rows that answers are put into one after the other.
 use Rattle.std.proofs.Common.{◌≡◌, ◌<◌, ◌≤◌, ℕ, ◌+◌, ◌∙◌, List, Option, None, length, get_or, sym}
 use Rattle.value_ops.specs.declared.value.Value.{Value}
-use Rattle.value_ops.specs.Expressions.{Expression}
+use Rattle.expressions.specs.Expressions.{Expression}
 use Rattle.slow_eval.specs.Rows.{IsPut}
 use Rattle.std.proofs.lemmas.List.{get_or_default}
 

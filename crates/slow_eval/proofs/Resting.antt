@@ -2,7 +2,7 @@
 use Rattle.std.proofs.Common.{◌≡◌, ◌<◌, ◌≤◌, ◌+◌, ◌-◌, ◌∙◌, ℕ, List, Option, Some, None, length}
 use Rattle.std.proofs.Common.{take, drop, get_or, refl, subst, ap, arith, length-drop}
 use Rattle.value_ops.specs.declared.value.Value.{Value}
-use Rattle.value_ops.specs.Expressions.{Expression}
+use Rattle.expressions.specs.Expressions.{Expression}
 use Rattle.rate_expr.specs.Words.{Word}
 use Rattle.query_model.specs.Queries.{Qre}
 use Rattle.slow_eval.specs.Answers.{AreAnswers}

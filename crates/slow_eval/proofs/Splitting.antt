@@ -2,7 +2,7 @@
 use Rattle.std.proofs.Common.{◌≡◌, ◌<◌, ◌≤◌, ℕ, ◌+◌, ◌-◌, List, Option, Some, None, length, take}
 use Rattle.std.proofs.Common.{drop, get_or, sym, subst, arith, take-add, length-drop}
 use Rattle.value_ops.specs.declared.value.Value.{Value}
-use Rattle.value_ops.specs.Expressions.{Expression}
+use Rattle.expressions.specs.Expressions.{Expression}
 use Rattle.rate_expr.specs.Words.{Word}
 use Rattle.query_model.specs.Denotation.{Den}
 use Rattle.query_model.specs.Queries.{Qre, split}

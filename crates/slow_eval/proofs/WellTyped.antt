@@ -4,13 +4,13 @@ use Rattle.std.specs.Prelude.{MatchOption, slice_get}
 use Rattle.value_ops.specs.declared.field.Field.{Field}
 use Rattle.value_ops.specs.declared.value.Value.{Value}
 use Rattle.value_ops.specs.declared.value.ValueType.{ValueType}
-use Rattle.value_ops.specs.Evaluation.{given}
-use Rattle.value_ops.specs.Expressions.{Expression}
+use Rattle.expressions.specs.Evaluation.{given}
+use Rattle.expressions.specs.Expressions.{Expression}
 use Rattle.value_ops.specs.Types.{IsValueOf}
-use Rattle.value_ops.specs.Typing.{HasType, types_of}
+use Rattle.expressions.specs.Typing.{HasType, types_of}
 use Rattle.item_schema.specs.declared.column.Column.{Column}
 use Rattle.item_schema.specs.Items.{IsItemOf}
-use Rattle.predicate_cells.specs.Predicates.{Predicate}
+use Rattle.predicates.specs.Predicates.{Predicate}
 use Rattle.rate_expr.specs.Words.{Word, IsWordOf}
 use Rattle.query_model.specs.Denotation.{Den}
 use Rattle.query_model.specs.Following.{IsAnswer}

@@ -2,7 +2,7 @@
 -- of a key.
 use Rattle.std.specs.Prelude.{◌≡◌, ◌≤◌, ℕ, ◌+◌, List, [], Option, length, slice_index, take}
 use Rattle.value_ops.specs.declared.value.Value.{Value}
-use Rattle.predicate_cells.specs.Predicates.{Predicate}
+use Rattle.predicates.specs.Predicates.{Predicate}
 use Rattle.rate_expr.specs.Words.{Word}
 use Rattle.query_model.specs.Denotation.{keys_after, projection}
 use Rattle.slow_eval.specs.Rows.{answer_at}

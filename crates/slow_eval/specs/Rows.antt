@@ -3,9 +3,9 @@ use Rattle.std.specs.Prelude.{◌≡◌, ◌<◌, ℕ, ◌+◌, List, [], Option
 use Rattle.std.specs.Prelude.{slice_index_or}
 use Rattle.value_ops.specs.declared.value.Value.{Value}
 use Rattle.value_ops.specs.declared.value.ValueType.{ValueType}
-use Rattle.value_ops.specs.Evaluation.{given}
-use Rattle.value_ops.specs.Expressions.{Expression}
-use Rattle.value_ops.specs.Typing.{HasType, types_of}
+use Rattle.expressions.specs.Evaluation.{given}
+use Rattle.expressions.specs.Expressions.{Expression}
+use Rattle.expressions.specs.Typing.{HasType, types_of}
 use Rattle.query_model.specs.Denotation.{on_one, on_both}
 
 -- the answer at a place of a row

@@ -1,7 +1,7 @@
 //! The search for the tables of a collect.
 ghost use Rattle.std.specs.Prelude.{◌≡◌, ℕ, List, IfOk};
 ghost use Rattle.std.specs.List.{AllByRecursion};
-ghost use Rattle.predicate_cells.specs.Plain as predicates;
+ghost use Rattle.predicates.specs.Plain as predicates;
 ghost use Rattle.rate_expr.specs.Plain as rates;
 ghost use Rattle.query_model.specs.Denotation.{projection};
 ghost use Rattle.query_model.specs.Queries.{collect, plain_of};
@@ -13,7 +13,7 @@ use crate::keys::{keys_of, on_items, projection};
 use crate::rates::fronts_in;
 use crate::search::answers_on_fronts;
 use item_schema::Item;
-use predicate_cells::Pred;
+use predicates::Pred;
 use query_model::Query;
 use rate_expr::Rate;
 use std::alloc::{AllocError, Global};

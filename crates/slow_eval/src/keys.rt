@@ -2,15 +2,15 @@
 ghost use Rattle.std.specs.Prelude.{◌≡◌, ◌+◌, ◌||◌, length, IfOk, OnOk};
 ghost use Rattle.std.specs.List.{list_any};
 ghost use Rattle.std.specs.Str.{bytes_eq};
-ghost use Rattle.predicate_cells.specs.Plain.{plain_of};
-ghost use Rattle.predicate_cells.specs.Truth.{holds};
+ghost use Rattle.predicates.specs.Plain.{plain_of};
+ghost use Rattle.predicates.specs.Truth.{holds};
 ghost use Rattle.query_model.specs.Denotation.{projection, with_key};
 ghost use Rattle.query_model.specs.Keys.{key_of};
 ghost use Rattle.slow_eval.specs.Projections.{AreKeysOf, IsOnItems};
 
 use crate::places::copied;
 use item_schema::Item;
-use predicate_cells::{Pred, holds};
+use predicates::{Pred, holds};
 use query_model::joined_key;
 use std::alloc::{AllocError, Global};
 use value_ops::{Bytes, Value};

@@ -1,15 +1,16 @@
 //! The answers of the queries whose words have one item or none.
 ghost use Rattle.std.specs.Prelude.{IfOk};
-ghost use Rattle.value_ops.specs.Expressions as values;
-ghost use Rattle.predicate_cells.specs.Plain as predicates;
+ghost use Rattle.expressions.specs.Expressions as values;
+ghost use Rattle.predicates.specs.Plain as predicates;
 ghost use Rattle.query_model.specs.Queries.{atom, eps};
 ghost use Rattle.slow_eval.specs.Answers.{AreAnswers, CanBeRead};
 
 use crate::places::no_answers;
+use expressions::Expr;
 use item_schema::Item;
-use predicate_cells::{Pred, holds};
+use predicates::{Pred, holds};
 use std::alloc::{AllocError, Global};
-use value_ops::{Expr, Scalar, Value};
+use value_ops::{Scalar, Value};
 
 /// An atom can have a value only on the front of one item.
 pub(crate) fn atom_answers(

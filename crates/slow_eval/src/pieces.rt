@@ -1,6 +1,6 @@
 //! The search for the values of a query that parts a word into pieces.
 ghost use Rattle.std.specs.Prelude.{◌≡◌, ◌<◌, ◌≤◌, ◌+◌, drop, length, IfOk, OnOk};
-ghost use Rattle.value_ops.specs.Expressions as values;
+ghost use Rattle.expressions.specs.Expressions as values;
 ghost use Rattle.query_model.specs.Queries.{iter, plain_of, split};
 ghost use Rattle.slow_eval.specs.Answers.{AreAnswers, CanBeRead};
 ghost use Rattle.slow_eval.specs.Rests.{IsJoinedWithRest, IsTypedWithRest};
@@ -9,10 +9,11 @@ ghost use Rattle.slow_eval.specs.Rows.{answer_at};
 use crate::leaf_answers::eps_answers;
 use crate::places::{copied, join, no_answers};
 use crate::search::answers_on_fronts;
+use expressions::Expr;
 use item_schema::Item;
 use query_model::Query;
 use std::alloc::{AllocError, Global};
-use value_ops::{Expr, Value};
+use value_ops::Value;
 
 #[cycle(search)]
 pub(crate) fn split_answers(

@@ -6,12 +6,13 @@
 ghost use Rattle.std.specs.Prelude.{◌≡◌, ◌<◌, ◌≤◌, ◌+◌, ◌^◌, ℕ, length, Some, None, IfOk, OnOk};
 ghost use Rattle.std.specs.Option.{option_or};
 ghost use Rattle.value_ops.specs.declared.value.Value.{Value};
-ghost use Rattle.value_ops.specs.Expressions.{plain_of};
+ghost use Rattle.expressions.specs.Expressions.{plain_of};
 ghost use Rattle.slow_eval.specs.Rows.{answer_at, IsJoined, IsOnBoth, IsOnOne, IsPut};
 ghost use Rattle.slow_eval.specs.Rows.{IsTypedOnBoth, IsTypedOnOne};
 
+use expressions::Expr;
 use std::alloc::{AllocError, Global};
-use value_ops::{Expr, Value};
+use value_ops::Value;
 
 /// A row without answers, for a word of this number of items.
 pub(crate) fn no_answers(alloc: Global, items: usize) -> Result<Vec<Option<Value>>, AllocError>

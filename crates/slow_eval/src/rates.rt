@@ -6,7 +6,7 @@ ghost use Rattle.rate_expr.specs.Rates.{size_of};
 ghost use Rattle.slow_eval.specs.Fronts.{AreAfter, AreInRate, AreMet, AreSpelled};
 
 use item_schema::Item;
-use predicate_cells::holds;
+use predicates::holds;
 use rate_expr::masks::{has, only, overlap};
 use rate_expr::{Positions, Rate};
 use std::alloc::{AllocError, Global};

@@ -1,6 +1,6 @@
 //! The search for the values of a query.
 ghost use Rattle.std.specs.Prelude.{IfOk};
-ghost use Rattle.value_ops.specs.Expressions as values;
+ghost use Rattle.expressions.specs.Expressions as values;
 ghost use Rattle.query_model.specs.Following.{IsAnswer};
 ghost use Rattle.query_model.specs.Queries.{apply, choice, combine, compose, plain_of};
 ghost use Rattle.slow_eval.specs.Answers.{AreAnswers, CanBeRead};
@@ -10,10 +10,11 @@ use crate::derived_stream::{on_stream, stream_of};
 use crate::leaf_answers::{atom_answers, eps_answers};
 use crate::pieces::{iter_answers, split_answers};
 use crate::places::{applied, combined, either};
+use expressions::Expr;
 use item_schema::Item;
 use query_model::{Query, Shape};
 use std::alloc::{AllocError, Global};
-use value_ops::{Expr, Value};
+use value_ops::Value;
 
 /// The answers of a query on all fronts of a word, from the empty one to the whole. A split or an
 /// iter searches the rest after each front anew, and a collect the items of each key. So if these

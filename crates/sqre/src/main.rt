@@ -2,10 +2,11 @@
 #![tactic(auto)]
 
 use io_edge::{LazyFile, WriterSink};
-use sqre_run::{Status, sqre};
+use sqre_run::sqre;
 use std::env;
 use std::io::{self, ErrorKind};
 use std::process::ExitCode;
+use stream_run::Status;
 
 /// The exit status if the system does not give the words.
 const NO_WORDS: u8 = 9;

@@ -9,11 +9,11 @@ use Rattle.value_ops.specs.Texts.{IsText}
 use Rattle.value_ops.specs.declared.field.Field.{Field}
 use Rattle.item_schema.specs.Layout.{Layout}
 use Rattle.item_schema.specs.declared.column.Column.{Column}
-use Rattle.item_schema.specs.declared.stop.Skip.{Skip}
-use Rattle.item_schema.specs.Reading.{item_of}
-use Rattle.item_schema.proofs.Items.{item_is_of}
+use Rattle.line_reader.specs.declared.stop.Skip.{Skip}
+use Rattle.line_reader.specs.Reading.{item_of}
+use Rattle.line_reader.proofs.Items.{item_is_of}
 use Rattle.rate_expr.specs.Words.{Word, IsWordOf}
-use Rattle.sqre_run.specs.Output.{body_of, item_in, items_of, read_of}
+use Rattle.stream_run.specs.Output.{body_of, item_in, items_of, read_of}
 
 -- each number is a byte
 abbrev AreBytes : List ℕ → Type 0

@@ -19,20 +19,21 @@ use Rattle.type_checker.specs.Judged.{Verdict, accepted, refused}
 use Rattle.type_checker.specs.declared.blame.Blame.{Blame}
 use Rattle.sqre_run.specs.Call.{CompletesOf, OutcomeOf}
 use Rattle.sqre_run.specs.Carried.{Carried, LineCarried}
-use Rattle.sqre_run.specs.Compiled.{Compiles}
-use Rattle.sqre_run.specs.Drilled.{drilled}
-use Rattle.sqre_run.specs.Written.{Refuses, Reported}
-use Rattle.sqre_run.specs.Meanings.{IsMeaning, KeepsRules, Meaning}
+use Rattle.query_compiler.specs.Compiled.{Compiles, KeepsRules}
+use Rattle.stream_run.specs.Drilled.{drilled}
+use Rattle.stream_run.specs.Written.{Refuses, Reported}
+use Rattle.stream_run.specs.Meanings.{IsMeaning, Meaning}
 use Rattle.sqre_run.specs.OneLine.{CompletesLine, HoldsOfLine, WritesLine}
-use Rattle.sqre_run.specs.Outside.{Outside}
+use Rattle.stream_run.specs.Outside.{Outside}
 use Rattle.sqre_run.specs.Reasons.{WritesReason}
-use Rattle.sqre_run.specs.Stops.{AreLinesOf, IsBlamedIn, IsStopOf}
+use Rattle.query_compiler.specs.Stops.{IsBlamedIn, IsStopOf}
+use Rattle.sqre_run.specs.Blames.{AreLinesOf}
 use Rattle.sqre_run.specs.declared.command.Command.{Command}
 use Rattle.sqre_run.specs.declared.command.Command.TheVariants.{Run, Check, Bound, Why, Drill}
-use Rattle.sqre_run.specs.declared.query.QueryStop.TheVariants.{Refused as Refusing}
-use Rattle.sqre_run.specs.declared.status.Status.{Status}
-use Rattle.sqre_run.specs.declared.status.Status.TheVariants.{Done, ItemFault, SinkFault, Memory}
-use Rattle.sqre_run.proofs.Compilations.{one_query}
+use Rattle.query_compiler.specs.declared.query.QueryStop.TheVariants.{Refused as Refusing}
+use Rattle.stream_run.specs.declared.status.Status.{Status}
+use Rattle.stream_run.specs.declared.status.Status.TheVariants.{Done, ItemFault, SinkFault, Memory}
+use Rattle.query_compiler.proofs.Compilations.{one_query}
 use Rattle.sqre_run.proofs.Outcomes.{Completes-ended, Outcome-ended}
 use Rattle.sqre_run.proofs.Refusals.{blame_compiles, completes_refused, outcome_blamed}
 use Rattle.sqre_run.proofs.Refusals.{outcome_refused}

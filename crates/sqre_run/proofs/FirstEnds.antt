@@ -3,13 +3,13 @@ use Rattle.std.proofs.Common.{◌≡◌, ℕ, List, Option, Some, ap, subst}
 use Rattle.query_model.specs.Monitors.{Monitor}
 use Rattle.sqre_run.specs.Call.{LeavesItems, ReadsToFirstEnd}
 use Rattle.sqre_run.specs.Carried.{Carried}
-use Rattle.sqre_run.specs.Outside.{Ended, Outside, outside}
+use Rattle.stream_run.specs.Outside.{Ended, Outside, outside}
 use Rattle.sqre_run.specs.declared.command.Command.{Command}
 use Rattle.sqre_run.specs.declared.command.Command.TheVariants.{Run, Check, Bound, Why, Drill}
 use Rattle.sqre_run.specs.declared.command.Engine.{Engine}
-use Rattle.sqre_run.specs.declared.status.Status.{Status}
-use Rattle.sqre_run.specs.declared.status.Status.TheVariants.{Done, ItemFault, SinkFault, Memory}
-use Rattle.sqre_run.specs.declared.status.Status.TheVariants.{Limit}
+use Rattle.stream_run.specs.declared.status.Status.{Status}
+use Rattle.stream_run.specs.declared.status.Status.TheVariants.{Done, ItemFault, SinkFault, Memory}
+use Rattle.stream_run.specs.declared.status.Status.TheVariants.{Limit}
 
 -- a run, as it ended
 run_reads : (engine : Engine) (monitor : Monitor) (status : Status) (old new : Outside)

@@ -8,11 +8,14 @@ use Rattle.value_ops.specs.declared.value.Value.{Value}
 use Rattle.item_schema.specs.Layout.{Layout}
 use Rattle.query_model.specs.Monitors.{Monitor}
 use Rattle.query_model.specs.Rules.{free}
-use Rattle.sqre_run.specs.Meanings.{IsMeaning, KeepsRules, Meaning}
-use Rattle.sqre_run.specs.Output.{answer, answering, answers_after, is_header, items_of, output}
-use Rattle.sqre_run.specs.Output.{read_of, reply_to, value_after, whole_output}
+use Rattle.stream_run.specs.Meanings.{IsMeaning, Meaning}
+use Rattle.query_compiler.specs.Compiled.{KeepsRules}
+use Rattle.stream_run.specs.Output.{answer, answers_after, is_header, items_of}
+use Rattle.sqre_run.specs.Spoken.{answering, output}
+use Rattle.stream_run.specs.Output.{read_of, reply_to, value_after}
+use Rattle.sqre_run.specs.Spoken.{whole_output}
 use Rattle.sqre_run.proofs.ByteLines.{IsByteLine, byte_lines, byte_lines-append, items_word}
-use Rattle.sqre_run.proofs.OneAnswer.{one_answer}
+use Rattle.stream_run.proofs.OneAnswer.{one_answer}
 
 -- what is written for a line, by the layout and the value after the line
 reply_by : Layout → List Shown → Shown → Option Value → List ℕ

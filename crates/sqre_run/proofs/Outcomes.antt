@@ -7,18 +7,17 @@ use Rattle.std.proofs.KnownBytes.{Consumes-nil}
 use Rattle.io_edge.specs.Written.{AppendsSome}
 use Rattle.language_base.specs.declared.refusal.Refusal.{Refusal}
 use Rattle.report_writer.specs.Texts.{refusal_text}
-use Rattle.sqre_run.specs.Compiled.{Compiles}
+use Rattle.query_compiler.specs.Compiled.{Compiles, KeepsRules}
 use Rattle.query_model.specs.Monitors.{Monitor}
 use Rattle.type_checker.specs.Judged.{accepted, refused}
-use Rattle.sqre_run.specs.Meanings.{KeepsRules}
-use Rattle.sqre_run.specs.Output.{Spoken, Reports, answering, output, refusing, whole_output}
-use Rattle.sqre_run.specs.Outside.{Ended, Outside, WrotePart}
+use Rattle.sqre_run.specs.Spoken.{Spoken, Reports, answering, output, refusing, whole_output}
+use Rattle.stream_run.specs.Outside.{Ended, Outside, WrotePart}
 use Rattle.sqre_run.specs.Call.{Completes, Outcome}
 use Rattle.sqre_run.specs.Carried.{RefusalCarried}
-use Rattle.sqre_run.specs.Written.{Refuses}
-use Rattle.sqre_run.specs.declared.status.Status.{Status}
-use Rattle.sqre_run.specs.declared.status.Status.TheVariants.{Done, Refused, ItemFault, SinkFault}
-use Rattle.sqre_run.specs.declared.status.Status.TheVariants.{Memory, Limit}
+use Rattle.stream_run.specs.Written.{Refuses}
+use Rattle.stream_run.specs.declared.status.Status.{Status}
+use Rattle.stream_run.specs.declared.status.Status.TheVariants.{Done, Refused, ItemFault, SinkFault}
+use Rattle.stream_run.specs.declared.status.Status.TheVariants.{Memory, Limit}
 
 -- how the run of a query ended is the outcome of its text
 pub Outcome-ended : (text : List ℕ) (monitor : Monitor) → Compiles text (accepted monitor)

@@ -4,7 +4,7 @@ use Rattle.std.specs.declared.alloc.AllocError.{AllocError}
 use Rattle.std.specs.Io.KnownBytes.{Appends}
 use Rattle.io_edge.specs.Written.{AppendsSome}
 use Rattle.language_base.specs.declared.refusal.Refusal.{Refusal}
-use Rattle.query_parser.specs.Reading.{IsFileOf, IsRefused, depth, form, literal, long, term, token}
+use Rattle.query_parser.specs.Reading.{IsFileOf}
 use Rattle.query_syntax.specs.Files.{program_terms}
 use Rattle.query_syntax.specs.Programs.{Program}
 use Rattle.report_writer.specs.Texts.{refusal_text}
@@ -14,31 +14,18 @@ use Rattle.type_checker.specs.declared.blame.Blame.{Blame}
 use Rattle.type_checker.proofs.Judging.{blame_refused}
 use Rattle.sqre_run.specs.Call.{CompletesOf, OutcomeOf}
 use Rattle.sqre_run.specs.Carried.{RefusalCarried}
-use Rattle.sqre_run.specs.Compiled.{Compiles, judged, unread}
-use Rattle.sqre_run.specs.Written.{Refuses}
+use Rattle.query_compiler.specs.Compiled.{Compiles, judged}
+use Rattle.stream_run.specs.Written.{Refuses}
 use Rattle.sqre_run.specs.OneLine.{CompletesLine, WritesLine}
-use Rattle.sqre_run.specs.Outside.{Outside}
+use Rattle.stream_run.specs.Outside.{Outside}
 use Rattle.sqre_run.specs.Reasons.{IsReason, WritesReason, by_line, by_word}
-use Rattle.sqre_run.specs.Stops.{AreLinesOf, IsReasonOf, IsRefusedBy}
+use Rattle.query_compiler.specs.Stops.{IsRefusedBy}
+use Rattle.sqre_run.specs.Blames.{AreLinesOf, IsReasonOf}
 use Rattle.sqre_run.specs.declared.command.Command.{Command}
 use Rattle.sqre_run.specs.declared.command.Command.TheVariants.{Run, Check, Bound, Why, Drill}
-use Rattle.sqre_run.specs.declared.status.Status.{Status}
-use Rattle.sqre_run.specs.declared.status.Status.TheVariants.{Refused, SinkFault, Memory}
+use Rattle.stream_run.specs.declared.status.Status.{Status}
+use Rattle.stream_run.specs.declared.status.Status.TheVariants.{Refused, SinkFault, Memory}
 use Rattle.sqre_run.proofs.Outcomes.{Completes-refused, Outcome-refused}
-
--- no rule that a text breaks before it is a program forbids a word with two readings
-unread_forbids_none : (text : List ℕ) (why : Refusal) → IsRefused text why
-    → ForbidsTwoReadings why.rule → ⊥
-unread_forbids_none text _ (long beyond) forbids = forbids
-unread_forbids_none text _ (token before place short fault) forbids = forbids
-unread_forbids_none text _ (term tokens span has none) forbids = forbids
-unread_forbids_none text _ (depth trees span has deep) forbids = forbids
-unread_forbids_none text _ (form terms span has unfit) forbids = forbids
-unread_forbids_none text _ (literal terms span has large) forbids = forbids
-
--- so the text is refused by one that forbids none
-pub unread_refused : (text : List ℕ) (why : Refusal) → IsRefused text why → IsRefusedBy why text
-unread_refused text why refuses = (unread why refuses, unread_forbids_none text why refuses)
 
 -- lines that were written are carried
 carried_lines : (Are : List ℕ → Type 0) (status : Status) (lines : Result (List ℕ) AllocError)

@@ -9,9 +9,9 @@ use Rattle.value_ops.specs.declared.field.Field.TheVariants as field
 use Rattle.value_ops.specs.declared.value.Value.{Value}
 use Rattle.item_schema.specs.Items.{IsFieldOf, IsItemOf}
 use Rattle.item_schema.specs.Layout.{is_read}
-use Rattle.item_schema.specs.Reading.{stored}
-use Rattle.item_schema.specs.declared.stop.Cause.{Cause}
-use Rattle.item_schema.proofs.Items.{stored_fits, stored_is}
+use Rattle.line_reader.specs.Reading.{stored}
+use Rattle.line_reader.specs.declared.stop.Cause.{Cause}
+use Rattle.line_reader.proofs.Items.{stored_fits, stored_is}
 use Rattle.item_schema.specs.declared.column.Column.{Column}
 use Rattle.item_schema.specs.declared.column.Kind.{Kind}
 use Rattle.item_schema.specs.declared.column.Kind.TheVariants.{Int, Fixed, Text, Number, Table}
@@ -20,7 +20,8 @@ use Rattle.query_model.specs.Following.{IsAnswer}
 use Rattle.query_model.specs.Monitors.{Monitor}
 use Rattle.query_model.specs.Rules.{free}
 use Rattle.query_model.proofs.Decided.{ValueOrNone, value_or_none}
-use Rattle.sqre_run.specs.Meanings.{IsMeaning, KeepsRules, Meaning}
+use Rattle.stream_run.specs.Meanings.{IsMeaning, Meaning}
+use Rattle.query_compiler.specs.Compiled.{KeepsRules}
 
 -- it is so, or not
 abbrev OrNot : Type 0 → Type 0

@@ -2,9 +2,10 @@
 use Rattle.std.proofs.Common.{◌≡◌, ℕ, Bool, true, false, cond, List, [], ◌∷◌, ◌++◌, refl, sym, ap}
 use Rattle.std.proofs.Common.{◌∙◌, append-nil, ◌==◌}
 use Rattle.io_edge.specs.Lines.{Shown, ended_by_lf, last_line, lines_from}
-use Rattle.sqre_run.specs.Output.{Spoken, answering, answers, answers_after, output, output_lines}
-use Rattle.sqre_run.specs.Output.{refusing, whole_output}
-use Rattle.sqre_run.proofs.Answering.{answers_after-append}
+use Rattle.stream_run.specs.Output.{answers, answers_after}
+use Rattle.sqre_run.specs.Spoken.{Spoken, answering, output, output_lines}
+use Rattle.sqre_run.specs.Spoken.{refusing, whole_output}
+use Rattle.stream_run.proofs.Answering.{answers_after-append}
 
 -- the one list is the front of the other
 abbrev IsFront : List Shown → List Shown → Type 0

@@ -4,19 +4,19 @@ use Rattle.std.specs.Io.KnownBytes.{Appends, Consumes}
 use Rattle.io_edge.specs.Counts.{FailsBy, Rose, next_count}
 use Rattle.io_edge.specs.Limits.{max_count}
 use Rattle.language_base.specs.declared.refusal.Refusal.{Refusal}
-use Rattle.sqre_run.specs.Compiled.{Compiles, KeepsRulesIfAccepted}
+use Rattle.query_compiler.specs.Compiled.{Compiles, KeepsRulesIfAccepted, KeepsRules}
 use Rattle.type_checker.specs.Judged.{Verdict, accepted, refused}
 use Rattle.query_model.specs.Monitors.{Monitor}
-use Rattle.sqre_run.specs.Meanings.{IsMeaning, KeepsRules, Meaning}
-use Rattle.sqre_run.specs.Output.{Spoken, Reports, answering, output, refusing, whole_output}
+use Rattle.stream_run.specs.Meanings.{IsMeaning, Meaning}
+use Rattle.sqre_run.specs.Spoken.{Spoken, Reports, answering, output, refusing, whole_output}
 use Rattle.sqre_run.specs.OneLine.{CompletesLine, WritesLine}
-use Rattle.sqre_run.specs.Outside.{MeetsOneAtMost, Outside, Wrote, WroteLines, WrotePart}
+use Rattle.stream_run.specs.Outside.{MeetsOneAtMost, Outside, Wrote, WroteLines, WrotePart}
 use Rattle.sqre_run.specs.Reasons.{WritesReason}
 use Rattle.sqre_run.specs.declared.command.Command.{Command}
 use Rattle.sqre_run.specs.declared.command.Command.TheVariants.{Run, Why}
-use Rattle.sqre_run.specs.declared.status.Status.{Status}
-use Rattle.sqre_run.specs.declared.status.Status.TheVariants.{Done, Refused, Usage, QueryFault}
-use Rattle.sqre_run.specs.declared.status.Status.TheVariants.{ItemFault, SinkFault, Memory, Limit}
+use Rattle.stream_run.specs.declared.status.Status.{Status}
+use Rattle.stream_run.specs.declared.status.Status.TheVariants.{Done, Refused, Usage, QueryFault}
+use Rattle.stream_run.specs.declared.status.Status.TheVariants.{ItemFault, SinkFault, Memory, Limit}
 
 -- A fault is reported only where the count of faults of its object is one more, and then the two
 -- other counts have not changed. With every other status no count has changed.

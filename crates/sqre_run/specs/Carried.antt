@@ -4,11 +4,11 @@ use Rattle.std.specs.Io.KnownBytes.{Appends}
 use Rattle.io_edge.specs.Written.{AppendsSome}
 use Rattle.query_model.specs.Monitors.{Monitor}
 use Rattle.sqre_run.specs.OneLine.{HoldsOfLine}
-use Rattle.sqre_run.specs.Outside.{Ended, Outside}
+use Rattle.stream_run.specs.Outside.{Ended, Outside}
 use Rattle.sqre_run.specs.declared.command.Command.{Command}
 use Rattle.sqre_run.specs.declared.command.Command.TheVariants.{Run}
-use Rattle.sqre_run.specs.declared.status.Status.{Status}
-use Rattle.sqre_run.specs.declared.status.Status.TheVariants.{Done, Refused, SinkFault, Memory}
+use Rattle.stream_run.specs.declared.status.Status.{Status}
+use Rattle.stream_run.specs.declared.status.Status.TheVariants.{Done, Refused, SinkFault, Memory}
 
 -- its line was written whole, in part, or not at all
 abbrev pub LineCarried : Command → Monitor → Status → Option (List ℕ) → Option (List ℕ) → Type 0

@@ -7,14 +7,14 @@ use Rattle.query_model.specs.Bounds.{places_of, slots_of}
 use Rattle.query_model.specs.Monitors.{Monitor}
 use Rattle.report_writer.specs.Texts.{bound_text, check_text, refusal_text}
 use Rattle.type_checker.specs.Judged.{Verdict, accepted, refused}
-use Rattle.sqre_run.specs.Compiled.{Compiles, KeepsRulesIfAccepted}
-use Rattle.sqre_run.specs.Drilled.{drilled}
-use Rattle.sqre_run.specs.Meanings.{IsMeaning, KeepsRules, Meaning}
+use Rattle.query_compiler.specs.Compiled.{Compiles, KeepsRulesIfAccepted, KeepsRules}
+use Rattle.stream_run.specs.Drilled.{drilled}
+use Rattle.stream_run.specs.Meanings.{IsMeaning, Meaning}
 use Rattle.sqre_run.specs.declared.command.Command.{Command}
 use Rattle.sqre_run.specs.declared.command.Command.TheVariants.{Run, Check, Bound, Why, Drill}
-use Rattle.sqre_run.specs.declared.status.Status.{Status}
-use Rattle.sqre_run.specs.declared.status.Status.TheVariants.{Done, Refused, Usage, QueryFault}
-use Rattle.sqre_run.specs.declared.status.Status.TheVariants.{ItemFault, SinkFault, Memory, Limit}
+use Rattle.stream_run.specs.declared.status.Status.{Status}
+use Rattle.stream_run.specs.declared.status.Status.TheVariants.{Done, Refused, Usage, QueryFault}
+use Rattle.stream_run.specs.declared.status.Status.TheVariants.{ItemFault, SinkFault, Memory, Limit}
 
 -- P holds of the line for a query that is accepted: that it is, its bounds, or what a drill reports
 -- of it, whatever function gives its values. `run` and `slow` have no such line.

@@ -2,7 +2,8 @@
 ghost use Rattle.std.specs.Prelude.{◌≡◌, ◌++◌, IfOk};
 ghost use Rattle.report_writer.specs.Examples.{example_text};
 ghost use Rattle.report_writer.specs.Texts.{refusal_text};
-ghost use Rattle.sqre_run.specs.Stops.{AreLinesOf, IsBlamed, IsReasonOf, IsShownFor};
+ghost use Rattle.query_compiler.specs.Stops.{IsBlamed, IsShownFor};
+ghost use Rattle.sqre_run.specs.Blames.{AreLinesOf, IsReasonOf};
 
 use crate::command::Command;
 use ambiguity_example::{Example, example};

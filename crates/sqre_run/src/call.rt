@@ -1,23 +1,23 @@
 //! The top call.
 ghost use Rattle.std.specs.Prelude.{◌≡◌, ◌↔◌, IfSome, map, string_bytes};
 ghost use Rattle.io_edge.specs.Counts.{Rose};
-ghost use Rattle.sqre_run.specs.Compiled.{Compiles};
+ghost use Rattle.query_compiler.specs.Compiled.{Compiles};
 ghost use Rattle.type_checker.specs.Judged.{Verdict};
 ghost use Rattle.sqre_run.specs.Commands.{command_of};
-ghost use Rattle.sqre_run.specs.Outside.{outside};
+ghost use Rattle.stream_run.specs.Outside.{outside};
 ghost use Rattle.sqre_run.specs.QueryRead.{ReadsQuery};
 ghost use Rattle.sqre_run.specs.Call.{CompletesOf, EndsItems, FirstFault, LeavesItems};
 ghost use Rattle.sqre_run.specs.Call.{OutcomeOf, ReadsToFirstEnd, Untouched};
 
-use crate::Status;
 use crate::blame_text::blame_text;
 use crate::command::command_of;
 use crate::engine::carry_out;
-use crate::query::{QueryStop, compile};
 use crate::refusal::refuse;
 use io_edge::{Sink, Source};
+use query_compiler::{QueryStop, compile};
 use report_writer::refusal_text;
 use std::alloc::Global;
+use stream_run::Status;
 
 /// Does what the words after the program's name ask for. `run QUERY ITEMS` compiles the query and
 /// answers every line of the items, and so does `slow QUERY ITEMS` with the engine that keeps the

@@ -1,15 +1,15 @@
 //! The engine of a drill: that of a run.
 ghost use Rattle.std.specs.Prelude.{◌≡◌, IfOk};
 ghost use Rattle.query_model.specs.Monitors.{monitor_of};
-ghost use Rattle.sqre_run.specs.Drilled.{drilled};
-ghost use Rattle.sqre_run.specs.Drilling.{IsDrillable};
-ghost use Rattle.sqre_run.specs.Meanings.{IsMeaning, Meaning};
+ghost use Rattle.stream_run.specs.Drilled.{drilled};
+ghost use Rattle.item_drill.specs.Drillable.{IsDrillable};
+ghost use Rattle.stream_run.specs.Meanings.{IsMeaning, Meaning};
 
-use crate::drill_loop::drill;
 use eval_runner::Runner;
 use language_base::Bytes;
 use query_model::Checked;
 use std::alloc::{AllocError, Global};
+use stream_run::drill;
 
 /// Drills the query item by item.
 pub fn drill_query(

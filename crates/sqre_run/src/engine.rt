@@ -6,21 +6,20 @@ ghost use Rattle.query_model.specs.Queries.{plain_of};
 ghost use Rattle.report_writer.specs.Texts.{bound_text};
 ghost use Rattle.sqre_run.specs.Call.{LeavesItems};
 ghost use Rattle.sqre_run.specs.Carried.{Carried};
-ghost use Rattle.sqre_run.specs.Drilling.{IsDrillable};
-ghost use Rattle.sqre_run.specs.Faults.{LeavesFlushed, ReportsFault};
-ghost use Rattle.sqre_run.specs.Outside.{outside};
+ghost use Rattle.item_drill.specs.Drillable.{IsDrillable};
+ghost use Rattle.io_edge.specs.Faults.{LeavesFlushed, ReportsFault};
+ghost use Rattle.stream_run.specs.Outside.{outside};
 
-use crate::Status;
 use crate::command::Command;
 use crate::drill_engine::drill_query;
 use crate::run_engine::run_query;
-use crate::writer::report;
 use io_edge::{Sink, Source};
 use language_base::Bytes;
 use memory_bound::{places, slots};
 use query_model::Checked;
 use report_writer::{bound_text, check_text};
 use std::alloc::{AllocError, Global};
+use stream_run::{Status, report};
 
 /// Carries a command out. Only a run reads the items.
 pub fn carry_out<S: Source, W: Sink>(

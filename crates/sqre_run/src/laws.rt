@@ -1,22 +1,15 @@
 //! What holds of the output for each query and all item bytes.
 ghost use Rattle.std.specs.Prelude.{◌≡◌, ℕ, List, ◌++◌};
-ghost use Rattle.sqre_run.specs.Compiled.{Compiles};
-ghost use Rattle.type_checker.specs.Judged.{Verdict};
 ghost use Rattle.value_ops.specs.Texts.{IsText};
 ghost use Rattle.query_model.specs.Monitors.{Monitor};
-ghost use Rattle.sqre_run.specs.Meanings.{IsMeaning, KeepsRules, Meaning};
-ghost use Rattle.sqre_run.specs.Output.{Spoken, answering, output, whole_output};
+ghost use Rattle.stream_run.specs.Meanings.{IsMeaning, Meaning};
+ghost use Rattle.query_compiler.specs.Compiled.{KeepsRules};
+ghost use Rattle.sqre_run.specs.Spoken.{Spoken, answering, output, whole_output};
 
 /// What is written for the lines that an LF ends is a front of what is written for all lines.
 pub fn whole_lines_come_first()
     ensures { (query : Spoken) (bytes : List ℕ) → (rest : List ℕ)
         × (output query bytes ≡ whole_output query bytes ++ rest) }
-{}
-
-/// A query text is compiled to one query, or has one refusal.
-pub fn one_query_per_text()
-    ensures only { (text : List ℕ) (one other : Verdict) → Compiles text one → Compiles text other
-        → other ≡ one }
 {}
 
 /// For each query that keeps the rules some function gives its values; whichever does, the same is

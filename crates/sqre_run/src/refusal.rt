@@ -1,12 +1,11 @@
 //! Refusing a query.
-ghost use Rattle.sqre_run.specs.Faults.{LeavesFlushed, ReportsFault};
-ghost use Rattle.sqre_run.specs.Written.{Refuses};
+ghost use Rattle.io_edge.specs.Faults.{LeavesFlushed, ReportsFault};
+ghost use Rattle.stream_run.specs.Written.{Refuses};
 
-use crate::Status;
-use crate::writer::end;
 use io_edge::{Failed, Sink, write_all};
 use language_base::Bytes;
 use std::alloc::AllocError;
+use stream_run::{Status, end};
 
 /// Writes the lines of a refusal and flushes them. Out of memory for them, it writes nothing.
 pub fn refuse<W: Sink>(lines: Result<Bytes, AllocError>, out: &mut W) -> Status

@@ -3,12 +3,13 @@ ghost use Rattle.std.specs.Prelude.{◌≡◌, ◌≤◌, ◌-◌, ℕ, List, []
 ghost use Rattle.std.specs.Io.KnownBytes.{Consumes};
 ghost use Rattle.io_edge.specs.Counts.{FailsBy};
 ghost use Rattle.sqre_run.specs.Call.{Runs};
-ghost use Rattle.sqre_run.specs.Meanings.{IsMeaning, Meaning};
-ghost use Rattle.sqre_run.specs.Output.{answering, whole_output};
+ghost use Rattle.stream_run.specs.Meanings.{IsMeaning, Meaning};
+ghost use Rattle.sqre_run.specs.Spoken.{answering, whole_output};
 
-use crate::{Status, sqre};
+use crate::sqre;
 use io_edge::{Failed, Sink, Source};
 use std::alloc::{AllocError, Global};
+use stream_run::Status;
 
 /// Holds all bytes back until it is flushed. It flushes `ROOM` bytes in all, and then fails.
 #[derive(Drop)]

@@ -1,16 +1,15 @@
 //! The engine of a run, by what the words ask for.
 ghost use Rattle.query_model.specs.Monitors.{monitor_of};
-ghost use Rattle.sqre_run.specs.Faults.{LeavesFlushed, ReportsFault};
-ghost use Rattle.sqre_run.specs.Outside.{Ended, outside};
+ghost use Rattle.io_edge.specs.Faults.{LeavesFlushed, ReportsFault};
+ghost use Rattle.stream_run.specs.Outside.{Ended, outside};
 
-use crate::Status;
 use crate::command::Engine;
-use crate::run::run;
 use eval_runner::Runner;
 use io_edge::{Sink, Source};
 use query_model::Checked;
 use slow_eval::Slow;
 use std::alloc::{AllocError, Global};
+use stream_run::{Status, run};
 
 /// Runs the query, whichever engine follows its items.
 pub fn run_query<S: Source, W: Sink>(

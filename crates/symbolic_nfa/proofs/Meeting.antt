@@ -7,8 +7,8 @@ use Rattle.std.proofs.lemmas.List.{length-map}
 use Rattle.value_ops.specs.declared.field.Field.{Field}
 use Rattle.item_schema.specs.Items.{IsItemOf}
 use Rattle.predicate_cells.specs.Cells.{Partition, IsIn, cell_count, cell_of}
-use Rattle.predicate_cells.specs.Predicates.{Predicate, any}
-use Rattle.predicate_cells.specs.Truth.{holds}
+use Rattle.predicates.specs.Predicates.{Predicate, any}
+use Rattle.predicates.specs.Truth.{holds}
 use Rattle.rate_expr.specs.Paths.{Meets}
 use Rattle.rate_expr.specs.Sets.{Sets, Has}
 use Rattle.rate_expr.specs.Shared.{Shared, listed, AreShared}

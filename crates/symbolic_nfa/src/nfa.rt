@@ -47,7 +47,7 @@ struct Parts {
 
 impl Model for Nfa {
     ghost use Rattle.std.specs.Coded.{codes};
-    ghost use Rattle.predicate_cells.specs.Coding.{coded_predicate};
+    ghost use Rattle.predicates.specs.Coding.{coded_predicate};
     ghost use Rattle.symbolic_nfa.specs.Automata.{Automaton};
     ghost use Rattle.symbolic_nfa.specs.Tables.{AreTables};
 

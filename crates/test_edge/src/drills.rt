@@ -6,8 +6,9 @@ ghost use Rattle.item_schema.specs.Layout.{are_columns, has_digits, is_read};
 
 use crate::assertions::same;
 use item_drill::{Drill, drilled_bytes_have_lines, drilled_lines_have_items};
-use item_schema::{Column, Kind, Schema, read_item};
+use item_schema::{Column, Kind, Schema};
 use language_base::Bytes;
+use line_reader::read_item;
 use std::alloc::{AllocError, Global};
 use std::process::Abort;
 use std::test::Fail;

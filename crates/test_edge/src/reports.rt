@@ -1,7 +1,7 @@
 // What no clause says: that texts are made at all, and how they look when they are written out.
 use crate::assertions::same;
-use item_schema::{Cause, Skip};
 use language_base::{Refusal, Rule, Span};
+use line_reader::{Cause, Skip};
 use report_writer::{bound_text, check_text, drill_text, push_answer, push_skip, refusal_text};
 use std::alloc::{AllocError, Global};
 use std::process::Abort;

@@ -6,12 +6,12 @@ use Rattle.std.specs.Int.{w64}
 use Rattle.std.specs.List.{list_all}
 use Rattle.value_ops.specs.declared.field.Field.{Field}
 use Rattle.value_ops.specs.declared.field.Field.TheVariants as field
-use Rattle.value_ops.specs.Expressions.{read}
+use Rattle.expressions.specs.Expressions.{read}
 use Rattle.item_schema.specs.declared.column.Column.{Column}
 use Rattle.item_schema.specs.declared.column.Kind.TheVariants as kind
 use Rattle.item_schema.specs.Items.{IsItemOf}
 use Rattle.item_schema.specs.Layout.{is_read}
-use Rattle.predicate_cells.specs.Predicates.{any}
+use Rattle.predicates.specs.Predicates.{any}
 use Rattle.rate_expr.specs.Rates.{one}
 use Rattle.rate_expr.specs.Readings.{HaveOneSplit}
 use Rattle.rate_expr.specs.Words.{Word}
@@ -26,8 +26,8 @@ use Rattle.eval_nodes.specs.Plain.{seen_of}
 use Rattle.eval_nodes.specs.Streams.{CanBeMade}
 use Rattle.eval_nodes.specs.Sound.{IsSound}
 use Rattle.eval_nodes.specs.declared.progress.Progress.{Progress}
-use Rattle.eval_tree.specs.Steps.{CanStart, CanStep, StartsSoundly, StepsSoundly}
-use Rattle.eval_tree.specs.declared.hit.Hit.{Hit}
+use Rattle.step_laws.specs.Steps.{CanStart, CanStep, StartsSoundly, StepsSoundly}
+use Rattle.step_laws.specs.declared.hit.Hit.{Hit}
 
 five : FitsSigned w64 (pos 5)
 five = search rules

@@ -5,13 +5,13 @@ use Rattle.std.specs.List.{IsDistinct, list_all}
 use Rattle.std.proofs.lemmas.Map.Keys.{IsDistinct-cons}
 use Rattle.value_ops.specs.declared.field.Field.{Field}
 use Rattle.value_ops.specs.declared.field.Field.TheVariants as field
-use Rattle.value_ops.specs.Expressions.{read}
+use Rattle.expressions.specs.Expressions.{read}
 use Rattle.value_ops.specs.Texts.{IsText}
 use Rattle.item_schema.specs.declared.column.Column.{Column}
 use Rattle.item_schema.specs.declared.column.Kind.TheVariants as kind
 use Rattle.item_schema.specs.Layout.{is_read}
-use Rattle.predicate_cells.specs.Fits.{has_texts}
-use Rattle.predicate_cells.specs.Predicates.{any}
+use Rattle.predicates.specs.Fits.{has_texts}
+use Rattle.predicates.specs.Predicates.{any}
 use Rattle.query_model.specs.Checked.{IsChecked, CheckedQuery}
 use Rattle.query_model.specs.Queries.{plain_of}
 use Rattle.query_model.specs.Rules.{AreKeyColumns, CanBeMet, IsClear, free}

@@ -1,11 +1,11 @@
 -- Statement. The streams of the tests, and the queries on them.
 use Rattle.std.specs.Prelude.{List, [], ◌∷◌, codes, pos}
 use Rattle.language_base.specs.declared.binary.BinaryOp.TheVariants as op
-use Rattle.value_ops.specs.declared.expr.Var.TheVariants as var
-use Rattle.value_ops.specs.Expressions.{binary, literal, read, Expression}
+use Rattle.expressions.specs.declared.expr.Var.TheVariants as var
+use Rattle.expressions.specs.Expressions.{binary, literal, read, Expression}
 use Rattle.item_schema.specs.declared.column.Column.{Column}
 use Rattle.item_schema.specs.declared.column.Kind.TheVariants as kind
-use Rattle.predicate_cells.specs.Predicates.{Predicate, any, eq_text}
+use Rattle.predicates.specs.Predicates.{Predicate, any, eq_text}
 use Rattle.rate_expr.specs.Rates.{one, sequence, star}
 use Rattle.query_model.specs.Queries.{Qre, atom, collect, combine, compose, iter, split}
 

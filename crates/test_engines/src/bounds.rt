@@ -1,12 +1,12 @@
 // What no clause says: that a bound is the one that was found by hand. The program cases_rates goes
 // through a table of queries and their bounds.
 use crate::assertions::same;
+use expressions::{Expr, Var};
 use memory_bound::{places, slots};
-use predicate_cells::Pred;
+use predicates::Pred;
 use query_model::{Query, Shape, Span};
 use std::alloc::{AllocError, Global};
 use std::test::Fail;
-use value_ops::{Expr, Var};
 
 fn query(alloc: Global, shape: Shape) -> Result<Box<Query>, AllocError> {
     let span = Span { from: 0, to: 1 };

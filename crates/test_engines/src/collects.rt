@@ -1,8 +1,8 @@
 // What the runner of a collect answers item by item, with ample memory.
 ghost use Rattle.std.specs.Prelude.{◌≡◌, [], ◌∷◌, ◌+◌, ◌<◌, IfOk, OnOk};
 ghost use Rattle.value_ops.specs.Texts.{IsText};
-ghost use Rattle.predicate_cells.specs.Plain as predicates;
-ghost use Rattle.predicate_cells.specs.Predicates.{any};
+ghost use Rattle.predicates.specs.Plain as predicates;
+ghost use Rattle.predicates.specs.Predicates.{any};
 ghost use Rattle.rate_expr.specs.Plain as rates;
 ghost use Rattle.rate_expr.specs.Rates.{one, sequence, star};
 ghost use Rattle.query_model.specs.Queries.{plain_of};
@@ -13,14 +13,15 @@ ghost use Rattle.test_engines.specs.TestedQueries as tested;
 use crate::assertions::same;
 use crate::fixtures::{key_column, query, total};
 use eval_runner::Runner;
+use expressions::{Expr, Var};
 use item_schema::{Column, Item, Kind, Schema};
-use predicate_cells::Pred;
+use predicates::Pred;
 use query_model::{Checked, Follower, Query, Shape};
 use rate_expr::Rate;
 use std::alloc::{AllocError, Global};
 use std::process::Abort;
 use std::test::Fail;
-use value_ops::{Bytes, Expr, Field, Scalar, Value, Var};
+use value_ops::{Bytes, Field, Scalar, Value};
 
 // A column of this name.
 fn column(alloc: Global, name: &[u8], kind: Kind) -> Result<Column, AllocError>

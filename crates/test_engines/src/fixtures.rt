@@ -1,16 +1,17 @@
 // Queries on a number, their streams and their items.
 ghost use Rattle.std.specs.Prelude.{◌≡◌, [], ◌∷◌, IfOk};
-ghost use Rattle.value_ops.specs.Expressions as values;
-ghost use Rattle.value_ops.specs.Expressions.{binary, read};
-ghost use Rattle.predicate_cells.specs.Predicates.{any};
+ghost use Rattle.expressions.specs.Expressions as values;
+ghost use Rattle.expressions.specs.Expressions.{binary, read};
+ghost use Rattle.predicates.specs.Predicates.{any};
 ghost use Rattle.query_model.specs.Queries.{atom, plain_of};
 ghost use Rattle.test_engines.specs.TestedQueries as tested;
 
+use expressions::{Expr, Var};
 use item_schema::{Column, Item, Kind, Schema};
-use predicate_cells::Pred;
+use predicates::Pred;
 use query_model::{KeyColumns, Query, Shape, Span};
 use std::alloc::{AllocError, Global};
-use value_ops::{BinaryOp, Bytes, Expr, Field, Var};
+use value_ops::{BinaryOp, Bytes, Field};
 
 pub fn query(alloc: Global, shape: Shape) -> Result<Box<Query>, AllocError>
     ensures { IfOk result (λ query. query.value.shape ≡ shape) }

@@ -8,13 +8,17 @@ ghost use Rattle.test_engines.specs.TestedQueries as tested;
 
 use crate::assertions::same;
 use crate::fixtures::{difference, item};
-use eval_nodes::{Node, copy_of_node, is_live, stored};
-use eval_tree::{Hit, start, step};
+use eval_nodes::{Node, is_live};
+use eval_tree::{start, step};
 use item_schema::Item;
+use new_nodes::new_node;
+use node_copies::copy_of_node;
+use node_counts::stored;
 use query_model::Query;
 use std::alloc::{AllocError, Global};
 use std::process::Abort;
 use std::test::Fail;
+use step_laws::Hit;
 use value_ops::{Scalar, Value};
 
 // A start and the number of the piece that begins there.
@@ -38,7 +42,7 @@ fn resting(alloc: Global, query: &Query) -> Result<Box<Node>, AllocError>
     ensures { IfOk result (λ node.
         IsSound seen_of tested.numbers (plain_of query.now.shape) 0 (holding_of node.value.state)) }
 {
-    let node = Node::new(alloc, query, None)?;
+    let node = new_node(alloc, query, None)?;
     Ok(Box::new(alloc, node)?)
 }
 

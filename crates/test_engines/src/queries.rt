@@ -3,7 +3,8 @@ ghost use Rattle.std.specs.Prelude.{◌<◌};
 
 use crate::assertions::same;
 use crate::fixtures::key_column;
-use predicate_cells::Pred;
+use expressions::{Expr, Var};
+use predicates::Pred;
 use query_model::{
     Query, Shape, Span, a_word_has_at_most_one_value, each_word_has_a_value_or_none,
     queries_have_values_on_their_rates, values_have_the_types_of_their_queries,
@@ -11,7 +12,7 @@ use query_model::{
 use rate_expr::Rate;
 use std::alloc::{AllocError, Global};
 use std::test::Fail;
-use value_ops::{BinaryOp, Expr, Var};
+use value_ops::BinaryOp;
 
 fn query(alloc: Global, shape: Shape, from: u32) -> Result<Box<Query>, AllocError>
     requires { from < 100 }

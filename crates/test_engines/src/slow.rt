@@ -1,22 +1,23 @@
 // Values by the rules of the language, on words so short that the rules can be asked here.
 ghost use Rattle.std.specs.Prelude.{◌≡◌, [], ◌∷◌, codes, pos, IfOk};
-ghost use Rattle.value_ops.specs.Expressions.{binary, literal, read};
-ghost use Rattle.predicate_cells.specs.Predicates.{any, eq_text};
+ghost use Rattle.expressions.specs.Expressions.{binary, literal, read};
+ghost use Rattle.predicates.specs.Predicates.{any, eq_text};
 ghost use Rattle.rate_expr.specs.Rates.{one, star};
 ghost use Rattle.query_model.specs.Queries.{atom, collect, compose, eps, plain_of, split};
 ghost use Rattle.slow_eval.specs.Answers.{CanBeRead};
 
 use crate::assertions::same;
 use crate::fixtures::{both, each, key_column, query};
+use expressions::{Expr, Var};
 use item_schema::Item;
-use predicate_cells::Pred;
+use predicates::Pred;
 use query_model::{Query, Shape};
 use rate_expr::Rate;
 use slow_eval::{answer_on, answers_on_fronts};
 use std::alloc::{AllocError, Global};
 use std::process::Abort;
 use std::test::Fail;
-use value_ops::{BinaryOp, Bytes, Expr, Field, Scalar, Value, Var};
+use value_ops::{BinaryOp, Bytes, Field, Scalar, Value};
 
 // split(eps(3), eps(4), sub(x, y))
 fn difference(alloc: Global) -> Result<Box<Query>, AllocError>

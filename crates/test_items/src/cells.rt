@@ -2,9 +2,8 @@
 // there may be. The program cases_rates goes through a table of tests and the cells that they make.
 use crate::assertions::same;
 use item_schema::{Column, Item, Kind, Schema};
-use predicate_cells::{
-    CellStop, Cells, Pred, Preds, cells_part_items, holds, predicates_are_met_or_not,
-};
+use predicate_cells::{CellStop, Cells, cells_part_items, predicates_are_met_or_not};
+use predicates::{Pred, Preds, holds};
 use std::alloc::{AllocError, Global};
 use std::test::Fail;
 use value_ops::{Bytes, Field};

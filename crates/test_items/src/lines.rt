@@ -4,10 +4,10 @@ ghost use Rattle.std.specs.Prelude.{◌≡◌, IfOk, IsTrue};
 ghost use Rattle.item_schema.specs.Layout.{has_digits, is_read};
 
 use crate::assertions::same;
-use item_schema::{
-    Column, Item, ItemStop, Kind, Schema, lines_are_cut_outside_quotes,
-    lines_are_skipped_for_their_texts, lines_have_items_of_their_columns, lines_write_their_items,
-    read_item,
+use item_schema::{Column, Item, Kind, Schema};
+use line_reader::{
+    ItemStop, lines_are_cut_outside_quotes, lines_are_skipped_for_their_texts,
+    lines_have_items_of_their_columns, lines_write_their_items, read_item,
 };
 use std::alloc::{AllocError, Global};
 use std::process::Abort;

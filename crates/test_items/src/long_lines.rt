@@ -4,7 +4,8 @@ ghost use Rattle.item_schema.specs.Layout.{has_digits, is_read};
 
 use crate::assertions::same;
 use crate::lines::{column, one_column, reported};
-use item_schema::{Column, Item, Kind, Schema, are_columns, read_item};
+use item_schema::{Column, Item, Kind, Schema, are_columns};
+use line_reader::read_item;
 use std::alloc::{AllocError, Global};
 use std::test::Fail;
 

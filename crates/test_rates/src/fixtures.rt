@@ -1,6 +1,6 @@
 // Rates and their positions, each in a box as soon as it is made.
 use crate::assertions::holds;
-use predicate_cells::Pred;
+use predicates::Pred;
 use rate_expr::{MAX_POSITIONS, Positions, Rate};
 use std::alloc::{AllocError, Global};
 use std::process::Abort;

@@ -3,7 +3,8 @@ ghost use Rattle.std.specs.Prelude.{◌≡◌, IfOk};
 
 use crate::assertions::holds;
 use item_schema::{Column, Kind, Schema};
-use predicate_cells::{CellStop, Cells, Pred, Preds};
+use predicate_cells::{CellStop, Cells};
+use predicates::{Pred, Preds};
 use rate_expr::{MAX_POSITIONS, Positions, Rate};
 use std::alloc::{AllocError, Global};
 use std::process::Abort;

@@ -2,7 +2,7 @@
 // hand. The program cases_rates goes through a table of rates and their sets.
 use crate::assertions::{holds, same};
 use crate::fixtures::{boxed, held, item, sets_of};
-use predicate_cells::Pred;
+use predicates::Pred;
 use rate_expr::masks::{end_of, has, lowest, only, overlap, without_lowest};
 use rate_expr::{
     MAX_POSITIONS, Positions, Rate, State, each_word_is_in_or_not, one_automaton_of_a_rate,

@@ -1,10 +1,10 @@
 // The commands that write one line. They read no item: the source of the items fails at once.
 use crate::assertions::same_at;
 use crate::fixtures::{Given, SUM, outcome, sum_over};
-use sqre_run::Status;
 use std::alloc::{AllocError, Global};
 use std::process::Abort;
 use std::test::Fail;
+use stream_run::Status;
 
 const HEADED: &[u8] = b"stream(header, col(a, int))\nmain(iter(atom(any, a), 0, add(x, y)))\n";
 

@@ -1,8 +1,8 @@
 // Queries of several shapes: whichever engine runs one, the answers are those of the language.
 use crate::assertions::{same, same_at};
 use crate::fixtures::{Given, outcome, run_of};
-use sqre_run::Status;
 use std::test::Fail;
+use stream_run::Status;
 
 const ONE_OR_NONE_BEFORE_TWO: &[u8] = b"stream(plain, col(a, int))
 main(apply(

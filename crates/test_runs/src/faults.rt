@@ -2,8 +2,8 @@
 // lines before it, or the bytes that the sink took. All reads are of one byte.
 use crate::assertions::{same, same_at};
 use crate::fixtures::{Given, READS, SUM, outcome, run_of, sum_over};
-use sqre_run::Status;
 use std::test::Fail;
+use stream_run::Status;
 
 const BY_KEY: &[u8] = br#"stream(plain, col(k, text), col(a, int))
 main(collect(k, eq(k, "tick"), seq(star(item(any)), item(eq(k, "tick"))), iter(atom(any, a), 0, add(x, y))))

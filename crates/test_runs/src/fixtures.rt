@@ -1,7 +1,8 @@
 // What a run is given, and what it gives.
 use io_edge::{MemorySink, MemorySource};
-use sqre_run::{Status, sqre};
+use sqre_run::sqre;
 use std::alloc::{AllocError, Global};
+use stream_run::Status;
 
 pub const SUM: &[u8] = b"stream(plain, col(a, int))\nmain(iter(atom(any, a), 0, add(x, y)))\n";
 

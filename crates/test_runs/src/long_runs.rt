@@ -6,13 +6,14 @@ use crate::compilation::compiled;
 use crate::fixtures::{Given, SUM, outcome, run_of, sum_over};
 use eval_runner::Runner;
 use item_drill::Drill;
-use item_schema::{Column, Kind, Schema, read_item};
+use item_schema::{Column, Kind, Schema};
 use language_base::Bytes;
+use line_reader::read_item;
 use query_model::Follower;
-use sqre_run::{Reply, Session, Status};
 use std::alloc::{AllocError, Global};
 use std::process::Abort;
 use std::test::Fail;
+use stream_run::{Reply, Session, Status};
 use value_ops::Field;
 
 // The number of lines that each of the three queries below is run on.

@@ -5,10 +5,11 @@ ghost use Rattle.std.specs.Prelude.{◌-◌, None, Some};
 use crate::assertions::same_at;
 use crate::fixtures::{SUM, words_of};
 use io_edge::{Failed, MemorySource, Sink, Source, SteadySource};
-use sqre_run::{Status, sqre};
+use sqre_run::sqre;
 use std::alloc::{AllocError, Global};
 use std::cell::Cell;
 use std::test::Fail;
+use stream_run::Status;
 
 // The most reads that are recorded.
 const SEEN: usize = 8;

@@ -1,10 +1,10 @@
 // The command `why`. It reads no item: the source of the items fails at once.
 use crate::assertions::same_at;
 use crate::fixtures::{Given, SUM, outcome, sum_over};
-use sqre_run::Status;
 use std::alloc::{AllocError, Global};
 use std::process::Abort;
 use std::test::Fail;
+use stream_run::Status;
 
 const CHOICE: &[u8] =
     b"stream(plain, col(a, int))\nmain(or(atom(le(a, 5), 1), atom(ge(a, 5), 2)))\n";

@@ -3,9 +3,10 @@
 use crate::assertions::{same, same_at};
 use crate::fixtures::{Given, SUM, outcome, run_of, sum_over, words_of};
 use io_edge::{MemorySource, SteadySink, SteadySource};
-use sqre_run::{Status, run_into_room, sqre};
+use sqre_run::{run_into_room, sqre};
 use std::alloc::{AllocError, Global};
 use std::test::Fail;
+use stream_run::Status;
 
 const PRICES: &[u8] = b"stream(header, col(sym, text), col(price, fixed(2)))
 main(iter(atom(any, price), 0, add(x, y)))

@@ -1,11 +1,11 @@
 // A session with the engine that keeps the whole word: each reply, and the value after it.
 use crate::assertions::same;
 use crate::compilation::compiled;
-use item_schema::{Cause, Skip};
+use line_reader::{Cause, Skip};
 use query_model::Follower;
 use slow_eval::Slow;
-use sqre_run::{Reply, Session};
 use std::test::Fail;
+use stream_run::{Reply, Session};
 use value_ops::{Scalar, Value};
 
 const FIRST: &[u8] = b"stream(header, col(a, int))\nmain(or(eps(7), atom(gt(a, 0), a)))\n";

@@ -3,7 +3,8 @@
 use crate::assertions::{same, same_at};
 use item_schema::{Column, Item, Kind, Schema};
 use map_collect::{Keys, Tracks};
-use predicate_cells::{CellStop, Cells, Pred, Preds};
+use predicate_cells::{CellStop, Cells};
+use predicates::{Pred, Preds};
 use rate_expr::{MAX_POSITIONS, Positions, Rate};
 use std::alloc::{AllocError, Global};
 use std::process::Abort;

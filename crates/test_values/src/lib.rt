@@ -1,5 +1,5 @@
-//! Calls of `language_base` and `value_ops` with ample memory, and what they give at their edges.
-//! They stand here because a crate with tests is proved twice.
+//! Calls of `language_base`, `value_ops` and `expressions` with ample memory, and what they give
+//! at their edges. They stand here because a crate with tests is proved twice.
 #![tactic(auto)]
 
 #[cfg(test)]
@@ -9,7 +9,7 @@ mod assertions;
 #[cfg(test)]
 mod base;
 #[cfg(test)]
-mod expressions;
+mod evaluation;
 #[cfg(test)]
 mod fields;
 #[cfg(test)]

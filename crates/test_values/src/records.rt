@@ -1,11 +1,10 @@
 // Records of numbers, and expressions that make them and take them apart.
 use crate::assertions::same;
+use expressions::{Expr, Exprs, Types, Var};
 use std::alloc::{AllocError, Global};
 use std::test::Fail;
 use value_ops::Scalar::{DivZero, Number, Overflow};
-use value_ops::{
-    BinaryOp, Expr, Exprs, Rec, Scalar, Table, Types, Value, Var, size_of_answer, size_of_value,
-};
+use value_ops::{BinaryOp, Rec, Scalar, Table, Value, size_of_answer, size_of_value};
 
 // How many parts the record has, and the first two.
 fn parts_of(record: &Rec) -> (usize, Scalar, Scalar) {

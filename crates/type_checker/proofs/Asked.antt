@@ -7,14 +7,14 @@ use Rattle.std.specs.List.{AllByRecursion, Contains}
 use Rattle.item_schema.specs.Layout.{Layout, derived_layout}
 use Rattle.language_base.specs.Limits.{max_positions}
 use Rattle.predicate_cells.specs.Cells.{AllFit, Partition}
-use Rattle.predicate_cells.specs.Predicates.{Predicate}
+use Rattle.predicates.specs.Predicates.{Predicate}
 use Rattle.rate_expr.specs.FirstLastFollow.{AreSetsOf}
 use Rattle.rate_expr.specs.Rates as rates
 use Rattle.rate_expr.specs.Rates.{preds_of, size_of}
 use Rattle.rate_expr.specs.Sets.{Sets}
 use Rattle.rate_expr.proofs.Meetings.{length-preds_of}
 use Rattle.symbolic_nfa.specs.Automata.{AreDecided}
-use Rattle.value_ops.specs.Expressions.{Expression}
+use Rattle.expressions.specs.Expressions.{Expression}
 use Rattle.query_model.specs.Queries as q
 use Rattle.query_model.specs.Queries.{Qre, plain_of}
 use Rattle.query_model.specs.QueryTypes.{type_of}

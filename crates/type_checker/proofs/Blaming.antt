@@ -11,7 +11,7 @@ use Rattle.query_model.specs.Rates.{rate_of}
 use Rattle.query_model.specs.Rules.{Standing}
 use Rattle.rate_expr.specs.Paths.{AreOf}
 use Rattle.symbolic_nfa.specs.Automata.{Automaton}
-use Rattle.value_ops.specs.Expressions.{Expression}
+use Rattle.expressions.specs.Expressions.{Expression}
 use Rattle.ambiguity_example.specs.Asks.{Asks, ShareCells, columns_of}
 use Rattle.ambiguity_example.specs.Shows as shows
 use Rattle.ambiguity_example.specs.Shows.{Question}

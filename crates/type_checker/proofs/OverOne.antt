@@ -5,7 +5,7 @@ use Rattle.predicate_cells.specs.Cells.{Partition}
 use Rattle.query_model.specs.Queries.{Qre, iter}
 use Rattle.rate_expr.specs.Sets.{Sets}
 use Rattle.symbolic_nfa.specs.Automata.{Automaton}
-use Rattle.value_ops.specs.Expressions.{Expression}
+use Rattle.expressions.specs.Expressions.{Expression}
 use Rattle.type_checker.specs.Breaches.{IsAutomatonOf, IsBrokenAt, IsKept}
 use Rattle.type_checker.specs.declared.word_stop.WordStop.{WordStop}
 use Rattle.type_checker.proofs.Answered.{answered_err, answered_ok}

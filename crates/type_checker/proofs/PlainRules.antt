@@ -10,8 +10,8 @@ use Rattle.language_base.specs.declared.rule.Rule.TheVariants.{Rates, Reach, Siz
 use Rattle.language_base.specs.declared.span.Span.{Span}
 use Rattle.item_schema.specs.Layout.{Layout}
 use Rattle.item_schema.specs.declared.column.Column.{Column}
-use Rattle.predicate_cells.specs.Fits.{fits}
-use Rattle.predicate_cells.specs.Predicates.{Predicate}
+use Rattle.predicates.specs.Fits.{fits}
+use Rattle.predicates.specs.Predicates.{Predicate}
 use Rattle.query_lets.specs.Unfolded.{unfolded}
 use Rattle.query_lets.specs.Words.{wrong_name}
 use Rattle.query_model.specs.Few.{has_few_cells}

@@ -6,8 +6,8 @@ use Rattle.std.specs.List.{All, Contains}
 use Rattle.predicate_cells.specs.Cells.{Partition, cell_count, cell_of}
 use Rattle.predicate_cells.specs.Marks.{Marks}
 use Rattle.predicate_cells.specs.Met.{IsMet, IsUnmet}
-use Rattle.predicate_cells.specs.Predicates.{Predicate}
-use Rattle.predicate_cells.specs.Truth.{holds}
+use Rattle.predicates.specs.Predicates.{Predicate}
+use Rattle.predicates.specs.Truth.{holds}
 use Rattle.predicate_cells.proofs.CellsFilled.{cells_have_items}
 
 -- the first of a list is in it

@@ -7,10 +7,10 @@ use Rattle.item_schema.specs.declared.column.Column.{Column}
 use Rattle.language_base.specs.declared.rule.Rule.{Rule}
 use Rattle.language_base.specs.declared.rule.Rule.TheVariants.{Empty}
 use Rattle.predicate_cells.specs.Met.{IsMet}
-use Rattle.predicate_cells.specs.Predicates.{Predicate}
+use Rattle.predicates.specs.Predicates.{Predicate}
 use Rattle.query_model.specs.Queries.{atom}
 use Rattle.query_model.specs.Rules.{free}
-use Rattle.value_ops.specs.Expressions.{Expression}
+use Rattle.expressions.specs.Expressions.{Expression}
 use Rattle.type_checker.specs.WordRules.{BreaksAt, BreaksMet}
 
 -- one predicate

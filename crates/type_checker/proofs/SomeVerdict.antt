@@ -12,7 +12,7 @@ use Rattle.language_base.specs.declared.rule.Rule.TheVariants.{Choice, Compose, 
 use Rattle.language_base.specs.declared.rule.Rule.TheVariants.{Reach, Split}
 use Rattle.item_schema.specs.declared.column.Column.{Column}
 use Rattle.predicate_cells.specs.Met.{IsMet, IsUnmet}
-use Rattle.predicate_cells.specs.Predicates.{Predicate}
+use Rattle.predicates.specs.Predicates.{Predicate}
 use Rattle.predicate_cells.proofs.MetOrNot.{met_or_not}
 use Rattle.rate_equal.specs.Differences.{HaveDifference, LacksSome}
 use Rattle.rate_expr.specs.Language.{In}

@@ -9,8 +9,8 @@ use Rattle.language_base.specs.declared.rule.Rule.TheVariants.{Choice, Compose, 
 use Rattle.language_base.specs.declared.rule.Rule.TheVariants.{Reach, Split}
 use Rattle.item_schema.specs.declared.column.Column.{Column}
 use Rattle.predicate_cells.specs.Met.{IsMet, IsUnmet}
-use Rattle.predicate_cells.specs.Predicates.{Predicate}
-use Rattle.predicate_cells.specs.Truth.{holds}
+use Rattle.predicates.specs.Predicates.{Predicate}
+use Rattle.predicates.specs.Truth.{holds}
 use Rattle.rate_equal.specs.Differences.{HaveDifference}
 use Rattle.rate_expr.specs.Rates.{Regex, preds_of}
 use Rattle.rate_expr.specs.Readings.{AreEqual}

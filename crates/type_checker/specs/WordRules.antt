@@ -8,7 +8,7 @@ use Rattle.language_base.specs.declared.rule.Rule.TheVariants.{Choice, Compose, 
 use Rattle.language_base.specs.declared.rule.Rule.TheVariants.{Reach, Split}
 use Rattle.item_schema.specs.declared.column.Column.{Column}
 use Rattle.predicate_cells.specs.Met.{IsMet, IsUnmet}
-use Rattle.predicate_cells.specs.Predicates.{Predicate}
+use Rattle.predicates.specs.Predicates.{Predicate}
 use Rattle.rate_equal.specs.Differences.{HaveDifference, LacksSome}
 use Rattle.rate_equal.specs.Reach.{ReachPairs, ReachStates, max_reach}
 use Rattle.rate_expr.specs.FirstLastFollow.{AreSetsOf}

@@ -1,21 +1,22 @@
 //! The rule of words that a node breaks. The automata of its operands decide it.
 ghost use Rattle.std.specs.Prelude.{◌≡◌, ℤ, IfOk};
 ghost use Rattle.std.specs.List.{Contains};
-ghost use Rattle.predicate_cells.specs.Plain.{plain_of};
+ghost use Rattle.predicates.specs.Plain.{plain_of};
 ghost use Rattle.query_model.specs.Queries.{Qre, atom, choice, combine, iter, split};
 ghost use Rattle.query_model.specs.Rules.{Standing, bound};
 ghost use Rattle.rate_expr.specs.FirstLastFollow.{AreSetsOf};
 ghost use Rattle.rate_expr.specs.Plain as rates;
 ghost use Rattle.rate_expr.specs.Rates as rate;
 ghost use Rattle.rate_expr.specs.Rates.{preds_of};
-ghost use Rattle.value_ops.specs.Expressions.{Expression};
+ghost use Rattle.expressions.specs.Expressions.{Expression};
 ghost use Rattle.query_resolver.specs.Findings.{AreAmong};
 ghost use Rattle.type_checker.specs.Breaches.{IsAutomatonOf};
 ghost use Rattle.type_checker.specs.WordRules.{BreaksAt, BreaksFed, BreaksMet};
 
 use ambiguity_check::{disjoint, one_factoring, one_split};
 use language_base::Rule;
-use predicate_cells::{Cells, Pred};
+use predicate_cells::Cells;
+use predicates::Pred;
 use rate_equal::{EqualStop, all_but_empty, same};
 use rate_expr::Rate;
 use std::alloc::{AllocError, Global};

@@ -2,7 +2,7 @@
 ghost use Rattle.std.specs.Prelude.{◌≡◌, ◌≤◌, ◌+◌, ◌++◌, ℕ, ℤ, IfErr, IfOk, None, OnOk, List};
 ghost use Rattle.item_schema.specs.Layout.{derived_layout};
 ghost use Rattle.language_base.specs.Limits.{max_positions};
-ghost use Rattle.predicate_cells.specs.Predicates.{Predicate};
+ghost use Rattle.predicates.specs.Predicates.{Predicate};
 ghost use Rattle.rate_expr.specs.FirstLastFollow.{AreSetsOf};
 ghost use Rattle.rate_expr.specs.Plain as rates;
 ghost use Rattle.rate_expr.specs.Rates.{preds_of, size_of};
@@ -19,7 +19,7 @@ ghost use Rattle.query_resolver.specs.Findings.{places_in};
 ghost use Rattle.query_resolver.specs.Nodes.{nodes_in, with_one, with_two};
 ghost use Rattle.type_checker.specs.Standings.{standing_of};
 ghost use Rattle.type_checker.specs.WordRules.{FirstBroken};
-ghost use Rattle.value_ops.specs.Expressions.{Expression};
+ghost use Rattle.expressions.specs.Expressions.{Expression};
 
 use crate::blame::Operands;
 use crate::roots::{choice, collected, fed, iterated, one_item, side_by_side, split};

@@ -1,9 +1,4 @@
 pub mod EntryLaws
-pub mod Folds
 pub mod KeyBytesLaws
 pub mod RecordLaws
-pub mod RecordParts
 pub mod Texts
-pub mod TypedExpressions
-pub mod TypedNames
-pub mod TypedValues

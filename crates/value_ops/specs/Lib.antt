@@ -1,14 +1,10 @@
 pub mod Entries
-pub mod Evaluation
-pub mod Expressions
 pub mod Fields
 pub mod KeyBytes
 pub mod Operators
 pub mod Records
 pub mod Scalar
-pub mod Shown
 pub mod Sizes
 pub mod Texts
 pub mod Types
-pub mod Typing
 pub mod Values

@@ -2,7 +2,7 @@
 ghost use Rattle.std.specs.Prelude.{◌≡◌, IsOk, IfOk, IfSome, option_map};
 ghost use Rattle.value_ops.specs.Texts.{IsText};
 
-use crate::{Bytes, Scalar, Value};
+use crate::{Bytes, Scalar, Value, ValueType};
 use std::alloc::{AllocError, Global};
 
 /// What stands in one column.
@@ -22,7 +22,7 @@ impl Default for Field {
 }
 
 impl Field {
-    ghost use Rattle.value_ops.specs.Fields.{scalar_of, text_of};
+    ghost use Rattle.value_ops.specs.Fields.{scalar_of, text_of, type_of_field};
     ghost use Rattle.value_ops.specs.Values.{TakesNoMemory};
 
     /// The number of an `Int`, or the scalar of a value that is one.
@@ -33,6 +33,17 @@ impl Field {
             Field::Int(number) => Some(Scalar::Number(*number)),
             Field::Val(Value::Scalar(scalar)) => Some(*scalar),
             Field::Text(_) | Field::Val(Value::Rec(_) | Value::Table(_)) => None,
+        }
+    }
+
+    /// The type of what stands in the field; a text has none.
+    pub fn ty(&self) -> Option<ValueType>
+        ensures { result ≡ type_of_field self.now }
+    {
+        match self {
+            Field::Int(_) => Some(ValueType::Number),
+            Field::Text(_) => None,
+            Field::Val(value) => Some(value.ty()),
         }
     }
 

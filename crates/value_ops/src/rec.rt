@@ -6,7 +6,7 @@ use crate::{Scalar, ValueType};
 use std::marker::Model;
 
 /// The most numbers that a record has.
-pub(crate) const ROOM: usize = 8;
+pub const MAX_PARTS: usize = 8;
 
 /// What stands at a place of a record.
 #[derive(Clone, Copy, Debug, PartialEq, Eq)]
@@ -49,8 +49,8 @@ impl Part {
 #[derive(Clone, Copy, Debug, PartialEq, Eq)]
 pub struct Rec {
     // Zero where the part is no number.
-    numbers: [i64; ROOM],
-    parts: [Part; ROOM],
+    numbers: [i64; MAX_PARTS],
+    parts: [Part; MAX_PARTS],
 }
 
 const _: () = prove!(size_of::<Rec>() == 72);
@@ -96,8 +96,8 @@ impl Rec {
         requires { IsRecordSize (length scalars.now) }
         ensures { result ≡ scalars.now }
     {
-        let mut numbers = [0; ROOM];
-        let mut parts = [Part::Absent; ROOM];
+        let mut numbers = [0; MAX_PARTS];
+        let mut parts = [Part::Absent; MAX_PARTS];
         'scalars: for (place, scalar) in scalars.iter().enumerate() {
             let scalar = scalar.known();
             numbers[place] = Rec::number_of(scalar);
@@ -116,7 +116,7 @@ impl Rec {
                 return place;
             }
         }
-        ROOM
+        MAX_PARTS
     }
 
     /// The part at a place, counted from 0.

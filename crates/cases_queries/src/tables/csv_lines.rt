@@ -2,8 +2,9 @@
 
 use csv::{ByteRecord, Error, ReaderBuilder};
 use io_edge::{LazyFile, Line, Lines, Source};
-use item_schema::{Column, Item, ItemStop, Kind, Schema, are_columns, read_item};
+use item_schema::{Column, Item, Kind, Schema, are_columns};
 use language_base::Bytes;
+use line_reader::{ItemStop, read_item};
 use std::alloc::{AllocError, Global};
 use std::fmt::Write;
 use std::io;

@@ -1,7 +1,8 @@
 //! How many keys the collects of a query meet.
 
 use crate::tables::stop::Stop;
-use item_schema::{Item, read_item};
+use item_schema::Item;
+use line_reader::read_item;
 use query_model::{Checked, Query, Shape, joined_key};
 use std::alloc::{AllocError, Global};
 use std::collections::BTreeSet;

@@ -2,8 +2,9 @@
 
 use io_edge::{MemorySink, SteadySource};
 use query_cases::push_spelled;
-use sqre_run::{Status, sqre};
+use sqre_run::sqre;
 use std::alloc::{AllocError, Global};
+use stream_run::Status;
 
 /// More bytes than a run of a table writes.
 const ROOM: usize = 4_096;

@@ -1,13 +1,13 @@
 //! The answers of one engine to the items of a word.
 ghost use Rattle.std.specs.Prelude.{◌≡◌, ◌≤◌, ◌<◌, ◌+◌, ◌^◌, [], OnOk};
 ghost use Rattle.query_model.specs.Queries.{plain_of};
-ghost use Rattle.sqre_run.specs.Sessions.{IsReady};
+ghost use Rattle.stream_run.specs.Sessions.{IsReady};
 
 use crate::tables::stop::Stop;
 use query_model::{Checked, Follower};
 use report_writer::push_answer;
-use sqre_run::{Reply, Session};
 use std::alloc::{AllocError, Global};
+use stream_run::{Reply, Session};
 
 /// The most items of a word.
 const MOST: u32 = 1_000;

@@ -425,10 +425,10 @@ collect::track-returns-then-not-can_track = Collect.collect::track-returns-then-
 pub collect::track-returns : goal.collect::track-returns
 collect::track-returns = Collect.collect::track-returns
 
-pub collect::new_runner-new-requires-clause-cells :
-    goal.collect::new_runner-new-requires-clause-cells
-collect::new_runner-new-requires-clause-cells =
-    Collect.collect::new_runner-new-requires-clause-cells
+pub collect::new_runner-new_node-requires-clause-cells :
+    goal.collect::new_runner-new_node-requires-clause-cells
+collect::new_runner-new_node-requires-clause-cells =
+    Collect.collect::new_runner-new_node-requires-clause-cells
 
 pub collect::new_runner-start_into-requires : goal.collect::new_runner-start_into-requires
 collect::new_runner-start_into-requires = Collect.collect::new_runner-start_into-requires

@@ -1,11 +1,11 @@
 use Rattle.std.proofs.Common.{◌≡◌, ◌+◌, ◌*◌, length, max}
-use Rattle.predicate_cells.specs.Plain as predicates
+use Rattle.predicates.specs.Plain as predicates
 use Rattle.query_model.specs.declared.query.Query.{size-Query}
 use Rattle.query_model.specs.Queries.{plain_of}
 use Rattle.map_collect.specs.Keys.{fallback_of, followers_of, names_of}
 use Rattle.eval_nodes.specs.Plain.{seen_of}
-use Rattle.eval_tree.specs.Feeds.{IsCarried}
-use Rattle.eval_tree.specs.Pushes.{AreCarriedBelow, ArePushedBelow}
+use Rattle.step_laws.specs.Feeds.{IsCarried}
+use Rattle.step_laws.specs.Pushes.{AreCarriedBelow, ArePushedBelow}
 use Rattle.eval_tree.proofs.+step.Given as goal
 
 -- the runner for later keys and those below the index have taken the item

@@ -4,10 +4,10 @@ use Rattle.std.proofs.lemmas.Int.{to_z-of_z}
 use Rattle.std.specs.Int.{w64}
 use Rattle.std.specs.List.{IsDistinct}
 use Rattle.std.specs.Str.{bytes_eq}
-use Rattle.value_ops.specs.Expressions as values
+use Rattle.expressions.specs.Expressions as values
 use Rattle.query_model.specs.Queries.{plain_of}
 use Rattle.slow_eval.specs.Answers.{AreAnswers, CanBeRead}
-use Rattle.predicate_cells.specs.Plain as predicates
+use Rattle.predicates.specs.Plain as predicates
 use Rattle.rate_expr.specs.Plain as rates
 use Rattle.query_model.specs.Denotation.{Den, projection}
 use Rattle.slow_eval.specs.declared.keyed_answers.Keyed.{Keyed}

@@ -1,8 +1,8 @@
 use Rattle.std.proofs.Common.{◌+◌, ◌*◌, max}
-use Rattle.value_ops.specs.Expressions as values
+use Rattle.expressions.specs.Expressions as values
 use Rattle.query_model.specs.declared.query.Query.{size-Query}
 use Rattle.query_model.specs.Queries.{plain_of}
-use Rattle.predicate_cells.specs.Plain as predicates
+use Rattle.predicates.specs.Plain as predicates
 use Rattle.slow_eval.proofs.Collecting.{AreKeyed}
 use Rattle.slow_eval.proofs.Iterating.{IsIterated}
 use Rattle.slow_eval.proofs.Splitting.{IsSplit}

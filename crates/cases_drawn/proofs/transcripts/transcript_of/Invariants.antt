@@ -1,5 +1,5 @@
 use Rattle.std.proofs.Common.{◌≤◌, ◌+◌}
-use Rattle.sqre_run.specs.Sessions.{IsReady}
+use Rattle.stream_run.specs.Sessions.{IsReady}
 use Rattle.cases_drawn.proofs.transcripts.transcript_of.Given as goal
 
 -- the engine can continue, and has taken no more items than are counted

@@ -1,7 +1,7 @@
 use Rattle.std.proofs.Common.{◌∙◌, ap, false}
-use Rattle.predicate_cells.specs.Plain as predicates
+use Rattle.predicates.specs.Plain as predicates
 use Rattle.rate_expr.specs.Plain as rates
-use Rattle.value_ops.specs.Expressions as values
+use Rattle.expressions.specs.Expressions as values
 use Rattle.query_model.specs.Queries.{apply, choice, combine, compose, plain_of, split}
 use Rattle.eval_nodes.specs.Plain.{holding_of}
 use Rattle.eval_nodes.proofs.Same.{same_query}

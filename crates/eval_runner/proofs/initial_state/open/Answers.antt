@@ -10,7 +10,7 @@ use Rattle.eval_nodes.specs.Plain.{holding_of}
 use Rattle.eval_nodes.specs.Streams.{AreColumnsOf, CanBeMade}
 use Rattle.eval_nodes.proofs.Made.{composes_few}
 use Rattle.eval_nodes.proofs.Served.{seen_cells}
-use Rattle.eval_tree.proofs.Carried.{begun}
+use Rattle.step_laws.proofs.Carried.{begun}
 use Rattle.eval_runner.proofs.initial_state.open.Goals as goal
 
 pub start-requires : goal.start-requires
@@ -51,16 +51,16 @@ returns-in-Ok c =
     (c.in_ok-node.ensures.sound on.layout.columns columns)
     c.in-Ok.ensures.word c.in-Ok.ensures.sound refl c.value_of.ensures)
 
-pub new-requires-clause-cells : goal.new-requires-clause-cells
-new-requires-clause-cells c =
+pub new_node-requires-clause-cells : goal.new_node-requires-clause-cells
+new_node-requires-clause-cells c =
     let query = c.main-query.result.now in
     seen_cells rc_value (λ cells. CanBeMade cells (plain_of query.shape))
     (option_copied c.as_ref.result) c.in_ok-cells.cells c.as_ref.ensures.value
     (subst (λ (q : Query). CanBeMade (option_map rc_value c.in_ok-cells.cells) (plain_of q.shape))
     (sym c.main-query.ensures.main) c.in_ok-cells.ensures.made)
 
-pub new-requires-clause-small : goal.new-requires-clause-small
-new-requires-clause-small c =
+pub new_node-requires-clause-small : goal.new_node-requires-clause-small
+new_node-requires-clause-small c =
     let query = plain_of c.main-query.result.now.shape in
     let small : IsSmall c.args.checked.now.layout.columns query =
     subst (λ (q : Query). IsSmall c.args.checked.now.layout.columns (plain_of q.shape))

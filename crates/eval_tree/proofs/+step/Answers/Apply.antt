@@ -1,19 +1,19 @@
 -- An expression on a value.
 use Rattle.std.proofs.Common.{ap, refl, rules, sym, ◌≡◌}
 use Rattle.std.proofs.lemmas.Bool.{false≢true}
-use Rattle.value_ops.specs.Expressions as values
+use Rattle.expressions.specs.Expressions as values
 use Rattle.query_model.specs.Queries.{plain_of}
 use Rattle.eval_nodes.specs.Holdings.{apply_held}
 use Rattle.eval_nodes.specs.Plain.{holding_of, seen_of}
 use Rattle.eval_nodes.specs.declared.node.State.TheViews.{out-State, roll-State}
-use Rattle.eval_tree.proofs.Allowed.{started_apply, stepped_apply}
-use Rattle.eval_tree.proofs.Arms.{can_start_as, can_step_as, numbers_start_as, numbers_step_as}
-use Rattle.eval_tree.proofs.Arms.{soundly_started_as, soundly_stepped_as, start_fails, started_as}
-use Rattle.eval_tree.proofs.Arms.{started_from, step_fails, stepped_as, stepped_from, when_started}
-use Rattle.eval_tree.proofs.Arms.{when_stepped}
-use Rattle.eval_tree.proofs.NumbersAllowed.{operand_starts, operand_steps}
-use Rattle.eval_tree.proofs.NumbersTyped.{applied_started, applied_stepped}
-use Rattle.eval_tree.proofs.PlainArms.{apply_starts, apply_steps}
+use Rattle.step_laws.proofs.Allowed.{started_apply, stepped_apply}
+use Rattle.step_laws.proofs.Arms.{can_start_as, can_step_as, numbers_start_as, numbers_step_as}
+use Rattle.step_laws.proofs.Arms.{soundly_started_as, soundly_stepped_as, start_fails, started_as}
+use Rattle.step_laws.proofs.Arms.{started_from, step_fails, stepped_as, stepped_from, when_started}
+use Rattle.step_laws.proofs.Arms.{when_stepped}
+use Rattle.step_laws.proofs.NumbersAllowed.{operand_starts, operand_steps}
+use Rattle.step_laws.proofs.NumbersTyped.{applied_started, applied_stepped}
+use Rattle.step_laws.proofs.PlainArms.{apply_starts, apply_steps}
 use Rattle.eval_tree.proofs.+step.Goals as goal
 
 pub apply::start_apply-apply_to-requires : goal.apply::start_apply-apply_to-requires

@@ -4,10 +4,10 @@ use Rattle.std.proofs.lemmas.Bool.{false≢true}
 use Rattle.query_model.specs.Queries.{plain_of}
 use Rattle.eval_nodes.specs.Plain.{holding_of, seen_of}
 use Rattle.eval_nodes.specs.declared.node.State.TheViews.{out-State, roll-State}
-use Rattle.eval_tree.proofs.Arms.{numbers_start_as, numbers_step_as, start_fails, started_as}
-use Rattle.eval_tree.proofs.Arms.{started_from, step_fails, stepped_as, stepped_from}
-use Rattle.eval_tree.proofs.NumbersAllowed.{first_starts, first_steps, second_starts, second_steps}
-use Rattle.eval_tree.proofs.PlainArms.{choice_starts, choice_steps}
+use Rattle.step_laws.proofs.Arms.{numbers_start_as, numbers_step_as, start_fails, started_as}
+use Rattle.step_laws.proofs.Arms.{started_from, step_fails, stepped_as, stepped_from}
+use Rattle.step_laws.proofs.NumbersAllowed.{first_starts, first_steps, second_starts, second_steps}
+use Rattle.step_laws.proofs.PlainArms.{choice_starts, choice_steps}
 use Rattle.eval_tree.proofs.+step.Goals as goal
 
 pub choice::start_choice-returns : goal.choice::start_choice-returns

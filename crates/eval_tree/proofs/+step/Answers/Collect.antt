@@ -3,7 +3,7 @@ use Rattle.std.proofs.Common.{ap, arith, inl, refl, rules, subst, sym, ◌∙◌
 use Rattle.query_model.specs.Queries.{plain_of}
 use Rattle.eval_nodes.specs.Plain.{holding_of, seen_of, tracks_of}
 use Rattle.eval_nodes.specs.Holdings.{collect_held}
-use Rattle.predicate_cells.specs.Plain as predicates
+use Rattle.predicates.specs.Plain as predicates
 use Rattle.eval_nodes.specs.declared.node.State.TheVariants.{Collect}
 use Rattle.eval_nodes.specs.declared.node.State.TheViews.{out-State, roll-State}
 use Rattle.eval_nodes.specs.declared.progress.Progress.{Progress}
@@ -11,13 +11,13 @@ use Rattle.eval_nodes.proofs.HeldTracks.{tracked_is, tracks_are}
 use Rattle.symbolic_nfa.specs.Automata.{Automaton}
 use Rattle.map_collect.specs.Tracks as tracks
 use Rattle.eval_nodes.proofs.Served.{without_collect}
-use Rattle.eval_tree.proofs.Arms.{can_start_as, can_step_as, started_as, stepped_as, when_started}
-use Rattle.eval_tree.proofs.Arms.{when_stepped}
-use Rattle.eval_tree.specs.Pushes.{BeginsAt, IsFirstTable, IsNew, CanPassBy, IsTabled, PassesBy}
-use Rattle.eval_tree.proofs.CollectAllowed.{make_allowed, advanced_allowed, pass_allowed}
-use Rattle.eval_tree.proofs.CollectAllowed.{push_allowed, pushed_end, pushed_next, with_length}
-use Rattle.eval_tree.proofs.CollectArms.{collect_starts, collect_steps}
-use Rattle.eval_tree.proofs.CollectBegun.{made_new, start_made}
+use Rattle.step_laws.proofs.Arms.{can_start_as, can_step_as, started_as, stepped_as, when_started}
+use Rattle.step_laws.proofs.Arms.{when_stepped}
+use Rattle.step_laws.specs.Pushes.{BeginsAt, IsFirstTable, IsNew, CanPassBy, IsTabled, PassesBy}
+use Rattle.step_laws.proofs.CollectAllowed.{make_allowed, advanced_allowed, pass_allowed}
+use Rattle.step_laws.proofs.CollectAllowed.{push_allowed, pushed_end, pushed_next, with_length}
+use Rattle.step_laws.proofs.CollectArms.{collect_starts, collect_steps}
+use Rattle.step_laws.proofs.CollectBegun.{made_new, start_made}
 use Rattle.map_collect.specs.Tracks.{KeepsExtending}
 use Rattle.eval_tree.proofs.+step.Goals as goal
 
@@ -87,9 +87,9 @@ collect::track-returns t c = (
   ),
 )
 
-pub collect::new_runner-new-requires-clause-cells :
-    goal.collect::new_runner-new-requires-clause-cells
-collect::new_runner-new-requires-clause-cells t c =
+pub collect::new_runner-new_node-requires-clause-cells :
+    goal.collect::new_runner-new_node-requires-clause-cells
+collect::new_runner-new_node-requires-clause-cells t c =
     without_collect (plain_of c.args.query.now.shape) c.requires.no_collect
 
 pub collect::new_runner-start_into-requires : goal.collect::new_runner-start_into-requires

@@ -1,17 +1,17 @@
 -- A combine.
 use Rattle.std.proofs.Common.{ap, refl, rules, sym, ◌≡◌}
 use Rattle.std.proofs.lemmas.Bool.{false≢true}
-use Rattle.value_ops.specs.Expressions as values
+use Rattle.expressions.specs.Expressions as values
 use Rattle.query_model.specs.Queries.{plain_of}
 use Rattle.eval_nodes.specs.Plain.{holding_of, seen_of}
-use Rattle.eval_tree.proofs.Arms.{can_start_as, can_step_as, numbers_start_as, numbers_step_as}
-use Rattle.eval_tree.proofs.Arms.{soundly_started_as, soundly_stepped_as, start_fails, started_as}
-use Rattle.eval_tree.proofs.Arms.{started_from, step_fails, stepped_as, stepped_from, when_started}
-use Rattle.eval_tree.proofs.Arms.{when_stepped}
-use Rattle.eval_tree.proofs.FoldsAllowed.{started_combine, stepped_combine}
-use Rattle.eval_tree.proofs.NumbersAllowed.{one_starts, one_steps, other_starts, other_steps}
-use Rattle.eval_tree.proofs.NumbersTyped.{combined_started, combined_stepped}
-use Rattle.eval_tree.proofs.PlainArms.{combine_starts, combine_steps}
+use Rattle.step_laws.proofs.Arms.{can_start_as, can_step_as, numbers_start_as, numbers_step_as}
+use Rattle.step_laws.proofs.Arms.{soundly_started_as, soundly_stepped_as, start_fails, started_as}
+use Rattle.step_laws.proofs.Arms.{started_from, step_fails, stepped_as, stepped_from, when_started}
+use Rattle.step_laws.proofs.Arms.{when_stepped}
+use Rattle.step_laws.proofs.FoldsAllowed.{started_combine, stepped_combine}
+use Rattle.step_laws.proofs.NumbersAllowed.{one_starts, one_steps, other_starts, other_steps}
+use Rattle.step_laws.proofs.NumbersTyped.{combined_started, combined_stepped}
+use Rattle.step_laws.proofs.PlainArms.{combine_starts, combine_steps}
 use Rattle.eval_tree.proofs.+step.Goals as goal
 
 pub combine::start_combine-combine_with-requires : goal.combine::start_combine-combine_with-requires

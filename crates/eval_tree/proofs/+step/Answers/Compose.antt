@@ -11,15 +11,15 @@ use Rattle.eval_nodes.specs.Live.{live_of}
 use Rattle.eval_nodes.proofs.HeldRunners.{fed_is, runners_are}
 use Rattle.compose_eval.specs.Followers as followers
 use Rattle.compose_eval.specs.Followers.{live_instances, retired}
-use Rattle.eval_tree.proofs.Arms.{can_start_as, can_step_as, live_as, numbers_start_as}
-use Rattle.eval_tree.proofs.Arms.{numbers_step_as, soundly_started_as, soundly_stepped_as}
-use Rattle.eval_tree.proofs.Arms.{start_fails, started_as, started_from, step_fails, stepped_as}
-use Rattle.eval_tree.proofs.Arms.{stepped_from, when_started}
-use Rattle.eval_tree.specs.Feeds.{CanFeed, CanPassOn, Feeds, PassesOn}
-use Rattle.eval_tree.proofs.ComposeAllowed.{feeds_allowed, passes_allowed, start_fed, step_fed}
-use Rattle.eval_tree.proofs.ComposeArms.{compose_starts, compose_steps}
-use Rattle.eval_tree.specs.Numbers.{FeedsNumbers, PassesNumbers}
-use Rattle.eval_tree.proofs.NumbersAllowed.{fed_starts, fed_steps, feeds_on, passes_on}
+use Rattle.step_laws.proofs.Arms.{can_start_as, can_step_as, live_as, numbers_start_as}
+use Rattle.step_laws.proofs.Arms.{numbers_step_as, soundly_started_as, soundly_stepped_as}
+use Rattle.step_laws.proofs.Arms.{start_fails, started_as, started_from, step_fails, stepped_as}
+use Rattle.step_laws.proofs.Arms.{stepped_from, when_started}
+use Rattle.step_laws.specs.Feeds.{CanFeed, CanPassOn, Feeds, PassesOn}
+use Rattle.step_laws.proofs.ComposeAllowed.{feeds_allowed, passes_allowed, start_fed, step_fed}
+use Rattle.step_laws.proofs.ComposeArms.{compose_starts, compose_steps}
+use Rattle.step_laws.specs.Numbers.{FeedsNumbers, PassesNumbers}
+use Rattle.step_laws.proofs.NumbersAllowed.{fed_starts, fed_steps, feeds_on, passes_on}
 use Rattle.eval_tree.proofs.+step.Goals as goal
 
 abbrev Runners : Type 0

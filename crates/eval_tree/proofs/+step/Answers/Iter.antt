@@ -3,7 +3,7 @@ use Rattle.std.proofs.Common.{Bool, Ok, Some, ap, refl, rules, subst, sym, ℕ, 
 use Rattle.std.proofs.lemmas.Bool.{false≢true}
 use Rattle.split_eval.specs.Entries.{Contents, live_entries}
 use Rattle.value_ops.specs.declared.value.Value.{Value}
-use Rattle.value_ops.specs.Expressions as values
+use Rattle.expressions.specs.Expressions as values
 use Rattle.value_ops.specs.Values.{IsNoTable}
 use Rattle.query_model.specs.Queries.{iter, plain_of}
 use Rattle.eval_nodes.specs.Holdings.{iter_held}
@@ -11,18 +11,18 @@ use Rattle.eval_nodes.specs.Live.{live_of}
 use Rattle.eval_nodes.specs.Plain.{holding_of, seen_of}
 use Rattle.eval_nodes.specs.declared.node.State.TheViews.{out-State, roll-State}
 use Rattle.eval_nodes.proofs.Same.{where_ok}
-use Rattle.eval_tree.specs.declared.hit.Hit.{Hit}
-use Rattle.eval_tree.specs.Lefts.{IsPut}
-use Rattle.eval_tree.specs.Operands.{CanEnd, EndsNumbers, Continues, HasEnded}
-use Rattle.eval_tree.proofs.Arms.{can_start_as, can_step_as, ended_as, live_as, number_hit}
-use Rattle.eval_tree.proofs.Arms.{numbers_start_as, numbers_step_as, soundly_stepped_as}
-use Rattle.eval_tree.proofs.Arms.{start_fails, started_as, started_from, step_fails, stepped_as}
-use Rattle.eval_tree.proofs.Arms.{stepped_from, when_stepped}
-use Rattle.eval_tree.proofs.Elsewhere.{elsewhere, fresh_elsewhere}
-use Rattle.eval_tree.proofs.FoldsAllowed.{start_next, start_piece, step_piece, stepped_iter}
-use Rattle.eval_tree.proofs.IterArms.{iter_starts, iter_steps_none, iter_steps_some}
-use Rattle.eval_tree.proofs.NumbersAllowed.{piece_begins, piece_starts, piece_steps}
-use Rattle.eval_tree.proofs.NumbersTyped.{ended_no_table, ended_piece}
+use Rattle.step_laws.specs.declared.hit.Hit.{Hit}
+use Rattle.step_laws.specs.Lefts.{IsPut}
+use Rattle.step_laws.specs.Operands.{CanEnd, EndsNumbers, Continues, HasEnded}
+use Rattle.step_laws.proofs.Arms.{can_start_as, can_step_as, ended_as, live_as, number_hit}
+use Rattle.step_laws.proofs.Arms.{numbers_start_as, numbers_step_as, soundly_stepped_as}
+use Rattle.step_laws.proofs.Arms.{start_fails, started_as, started_from, step_fails, stepped_as}
+use Rattle.step_laws.proofs.Arms.{stepped_from, when_stepped}
+use Rattle.step_laws.proofs.Elsewhere.{elsewhere, fresh_elsewhere}
+use Rattle.step_laws.proofs.FoldsAllowed.{start_next, start_piece, step_piece, stepped_iter}
+use Rattle.step_laws.proofs.IterArms.{iter_starts, iter_steps_none, iter_steps_some}
+use Rattle.step_laws.proofs.NumbersAllowed.{piece_begins, piece_starts, piece_steps}
+use Rattle.step_laws.proofs.NumbersTyped.{ended_no_table, ended_piece}
 use Rattle.eval_tree.proofs.+step.Goals as goal
 use Rattle.eval_tree.proofs.+step.Goals.{iter::step_iter-After-keep}
 

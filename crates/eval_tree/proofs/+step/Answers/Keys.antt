@@ -4,15 +4,15 @@ use Rattle.query_model.specs.Queries.{plain_of}
 use Rattle.eval_nodes.specs.Plain.{seen_of}
 use Rattle.eval_nodes.proofs.Same.{where_ok}
 use Rattle.eval_nodes.specs.declared.progress.Progress.{Progress}
-use Rattle.predicate_cells.specs.Plain as predicates
-use Rattle.eval_tree.proofs.Arms.{on_err}
-use Rattle.eval_tree.specs.Feeds.{CanCarry}
-use Rattle.eval_tree.proofs.CollectAllowed.{carried_end, carried_next, fallback_allowed}
-use Rattle.eval_tree.proofs.CollectAllowed.{follower_allowed, next_carried, with_allowed}
+use Rattle.predicates.specs.Plain as predicates
+use Rattle.step_laws.proofs.Arms.{on_err}
+use Rattle.step_laws.specs.Feeds.{CanCarry}
+use Rattle.step_laws.proofs.CollectAllowed.{carried_end, carried_next, fallback_allowed}
+use Rattle.step_laws.proofs.CollectAllowed.{follower_allowed, next_carried, with_allowed}
 use Rattle.std.proofs.lemmas.List.{length-set}
 use Rattle.std.proofs.lemmas.Option.{slice_get_within}
 use Rattle.map_collect.specs.Keys.{followers_of, names_of}
-use Rattle.eval_tree.proofs.KeysPushed.{pushed_all, pushed_key}
+use Rattle.step_laws.proofs.KeysPushed.{pushed_all, pushed_key}
 use Rattle.eval_tree.proofs.+step.Goals as goal
 
 -- an item of all keys, and one of one key

@@ -7,22 +7,23 @@ use Rattle.std.proofs.lemmas.Bool.{false≢true}
 use Rattle.query_model.specs.Queries.{plain_of}
 use Rattle.eval_nodes.specs.Plain.{holding_of, seen_of}
 use Rattle.eval_nodes.proofs.Same.{where_ok}
-use Rattle.eval_tree.specs.declared.hit.Hit.{Hit}
+use Rattle.step_laws.specs.declared.hit.Hit.{Hit}
 use Rattle.value_ops.specs.declared.field.Field.{Field}
 use Rattle.value_ops.specs.declared.value.Value.{Value}
 use Rattle.compose_eval.specs.Followers.{instance_at, with_follower, IsAt}
-use Rattle.eval_tree.specs.Feeds.{CanBegin, CanCarry, CanPassOn, Feeds, HasIdle, IsBegun, IsCarried}
-use Rattle.eval_tree.specs.Feeds.{PassesOn, hit_at, item_of}
-use Rattle.eval_tree.proofs.ComposeAllowed.{carry_begun, start_cleared, step_carried}
-use Rattle.eval_tree.proofs.Carried.{begun_anew, carried_on}
-use Rattle.eval_tree.proofs.Feeding.{begin_last, fed_already, feeds_at_rest, feeds_awake}
-use Rattle.eval_tree.proofs.Feeding.{feeds_none, passed_one, renew_allowed, deliver_allowed}
-use Rattle.eval_tree.specs.Numbers.{BeginsNumbers, CarriesNumbers, PassesNumbers}
-use Rattle.eval_tree.proofs.NumbersAllowed.{begun_carries, cleared_starts, last_begins}
-use Rattle.eval_tree.proofs.NumbersAllowed.{place_decides, runner_renews, runner_steps}
-use Rattle.eval_tree.proofs.NumbersTyped.{answer_no_table}
+use Rattle.step_laws.specs.Feeds.{CanBegin, CanCarry, CanPassOn, Feeds, HasIdle, IsBegun, IsCarried}
+use Rattle.step_laws.specs.Feeds.{PassesOn, hit_at, item_of}
+use Rattle.step_laws.proofs.ComposeAllowed.{carry_begun, start_cleared, step_carried}
+use Rattle.step_laws.proofs.Carried.{begun_anew, carried_on}
+use Rattle.step_laws.proofs.Feeding.{begin_last, fed_already, feeds_at_rest, feeds_awake}
+use Rattle.step_laws.proofs.Feeding.{feeds_none, passed_one, renew_allowed, deliver_allowed}
+use Rattle.step_laws.specs.Numbers.{BeginsNumbers, CarriesNumbers, PassesNumbers}
+use Rattle.step_laws.proofs.NumbersAllowed.{begun_carries, cleared_starts, last_begins}
+use Rattle.step_laws.proofs.NumbersAllowed.{place_decides, runner_renews, runner_steps}
+use Rattle.step_laws.proofs.NumbersTyped.{answer_no_table}
 use Rattle.eval_tree.proofs.+step.Goals as goal
 use Rattle.eval_tree.proofs.+step.Goals.{right_runners::feed-then-idle-eq0-via-then-idle-eq0}
+use Rattle.eval_tree.proofs.+step.Goals.{}
 use Rattle.eval_tree.proofs.+step.Goals.{right_runners::feed-then-idle-eq0-via-else-idle-eq0+then-is_some}
 
 -- what is said of a place that is there, and where there is none

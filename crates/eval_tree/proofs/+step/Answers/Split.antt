@@ -2,27 +2,27 @@
 use Rattle.std.proofs.Common.{Bool, Ok, Option, ap, refl, rules, subst, sym, ◌≡◌}
 use Rattle.std.proofs.lemmas.Bool.{false≢true}
 use Rattle.std.specs.Option.{option_or}
-use Rattle.value_ops.specs.Expressions as values
+use Rattle.expressions.specs.Expressions as values
 use Rattle.query_model.specs.Queries.{plain_of, split}
 use Rattle.eval_nodes.specs.Holdings.{split_held}
 use Rattle.eval_nodes.specs.Live.{live_of}
 use Rattle.eval_nodes.specs.Plain.{holding_of, seen_of}
 use Rattle.eval_nodes.specs.declared.node.State.TheViews.{out-State, roll-State}
-use Rattle.eval_tree.specs.declared.hit.Hit.{Hit}
-use Rattle.eval_tree.specs.Lefts.{IsPut}
-use Rattle.eval_tree.specs.Operands.{HasJoined}
-use Rattle.eval_tree.proofs.Allowed.{start_after, start_right, started_split, step_right}
-use Rattle.eval_tree.proofs.Allowed.{stepped_ended, stepped_joined}
-use Rattle.eval_tree.proofs.Arms.{both_ok, can_start_as, can_step_as, live_as, numbers_start_as}
-use Rattle.eval_tree.proofs.Arms.{numbers_step_as, soundly_started_as, soundly_stepped_as}
-use Rattle.eval_tree.proofs.Arms.{start_fails, started_as, started_from, step_fails, stepped_as}
-use Rattle.eval_tree.proofs.Arms.{stepped_from, when_stepped}
-use Rattle.eval_tree.proofs.Elsewhere.{elsewhere, fresh_elsewhere}
-use Rattle.eval_tree.proofs.NumbersAllowed.{left_starts, left_steps, right_begins, right_starts}
-use Rattle.eval_tree.proofs.NumbersAllowed.{right_steps}
-use Rattle.eval_tree.proofs.NumbersTyped.{ended_stepped, joined_started, joined_stepped}
-use Rattle.eval_tree.proofs.SplitArms.{split_starts, split_starts_none, split_steps_none}
-use Rattle.eval_tree.proofs.SplitArms.{split_steps_some}
+use Rattle.step_laws.specs.declared.hit.Hit.{Hit}
+use Rattle.step_laws.specs.Lefts.{IsPut}
+use Rattle.step_laws.specs.Operands.{HasJoined}
+use Rattle.step_laws.proofs.Allowed.{start_after, start_right, started_split, step_right}
+use Rattle.step_laws.proofs.Allowed.{stepped_ended, stepped_joined}
+use Rattle.step_laws.proofs.Arms.{both_ok, can_start_as, can_step_as, live_as, numbers_start_as}
+use Rattle.step_laws.proofs.Arms.{numbers_step_as, soundly_started_as, soundly_stepped_as}
+use Rattle.step_laws.proofs.Arms.{start_fails, started_as, started_from, step_fails, stepped_as}
+use Rattle.step_laws.proofs.Arms.{stepped_from, when_stepped}
+use Rattle.step_laws.proofs.Elsewhere.{elsewhere, fresh_elsewhere}
+use Rattle.step_laws.proofs.NumbersAllowed.{left_starts, left_steps, right_begins, right_starts}
+use Rattle.step_laws.proofs.NumbersAllowed.{right_steps}
+use Rattle.step_laws.proofs.NumbersTyped.{ended_stepped, joined_started, joined_stepped}
+use Rattle.step_laws.proofs.SplitArms.{split_starts, split_starts_none, split_steps_none}
+use Rattle.step_laws.proofs.SplitArms.{split_steps_some}
 use Rattle.eval_tree.proofs.+step.Goals as goal
 
 pub split::start_split-start_and_join-requires : goal.split::start_split-start_and_join-requires

@@ -2,16 +2,16 @@
 use Rattle.std.proofs.Common.{Ok, Some, ap, refl, rules, sym, w64, ℕ, ◌∙◌}
 use Rattle.std.specs.Prelude.{ℤ, FitsSigned}
 use Rattle.std.proofs.lemmas.Int.{to_z-of_z}
-use Rattle.value_ops.specs.Expressions as values
-use Rattle.predicate_cells.specs.Plain as predicates
+use Rattle.expressions.specs.Expressions as values
+use Rattle.predicates.specs.Plain as predicates
 use Rattle.rate_expr.specs.Plain as rates
 use Rattle.query_model.specs.declared.query.Shape.TheViews.{the_lemmas}
 use Rattle.query_model.specs.Queries.{collect, iter, plain_of}
 use Rattle.eval_nodes.specs.Plain.{holding_of}
 use Rattle.eval_nodes.proofs.Same.{same_query}
-use Rattle.eval_tree.proofs.Arms.{can_start_as, can_step_as, number_hit, started_as, started_from}
-use Rattle.eval_tree.proofs.Arms.{stepped_as, stepped_from}
-use Rattle.eval_tree.proofs.PlainArms.{eps_starts, eps_steps}
+use Rattle.step_laws.proofs.Arms.{can_start_as, can_step_as, number_hit, started_as, started_from}
+use Rattle.step_laws.proofs.Arms.{stepped_as, stepped_from}
+use Rattle.step_laws.proofs.PlainArms.{eps_starts, eps_steps}
 use Rattle.eval_tree.proofs.+step.Goals as goal
 use Rattle.eval_tree.proofs.+step.Goals.{steps::start_into-In-Eps, steps::start_into-In-Iter}
 

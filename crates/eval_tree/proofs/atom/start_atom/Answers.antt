@@ -2,8 +2,8 @@ use Rattle.std.proofs.Common.{Some, ap, refl}
 use Rattle.eval_nodes.specs.Holdings.{atom_held}
 use Rattle.eval_nodes.specs.Plain.{holding_of}
 use Rattle.eval_nodes.specs.declared.node.State.TheViews.{out-State, roll-State}
-use Rattle.eval_tree.proofs.Arms.{started_as}
-use Rattle.eval_tree.proofs.PlainArms.{atom_starts}
+use Rattle.step_laws.proofs.Arms.{started_as}
+use Rattle.step_laws.proofs.PlainArms.{atom_starts}
 use Rattle.eval_tree.proofs.atom.start_atom.Goals as goal
 
 pub returns : goal.returns

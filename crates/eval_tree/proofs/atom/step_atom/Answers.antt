@@ -1,18 +1,18 @@
 use Rattle.std.proofs.Common.{List, None, Ok, Option, Some, ap, refl, subst, sym, ℕ, ◌∙◌, ◌≡◌}
 use Rattle.value_ops.specs.declared.field.Field.{Field}
 use Rattle.value_ops.specs.declared.value.ValueType.{ValueType}
-use Rattle.value_ops.specs.Evaluation.{given, value_of}
-use Rattle.value_ops.specs.Expressions as values
-use Rattle.value_ops.specs.Typing.{HasType, types_of}
-use Rattle.predicate_cells.specs.Plain as predicates
+use Rattle.expressions.specs.Evaluation.{given, value_of}
+use Rattle.expressions.specs.Expressions as values
+use Rattle.expressions.specs.Typing.{HasType, types_of}
+use Rattle.predicates.specs.Plain as predicates
 use Rattle.eval_nodes.specs.Holdings.{atom_held}
 use Rattle.eval_nodes.specs.Plain.{holding_of, seen_of}
 use Rattle.eval_nodes.specs.declared.node.State.TheViews.{out-State, roll-State}
-use Rattle.eval_tree.specs.Lefts.{GivesNoTable}
-use Rattle.eval_tree.proofs.Allowed.{stepped_atom}
-use Rattle.eval_tree.proofs.Arms.{can_step_as, numbers_step_as, stepped_as, when_stepped}
-use Rattle.eval_tree.proofs.NumbersTyped.{given_stepped}
-use Rattle.eval_tree.proofs.PlainArms.{atom_steps, atom_steps_none, atom_steps_other}
+use Rattle.step_laws.specs.Lefts.{GivesNoTable}
+use Rattle.step_laws.proofs.Allowed.{stepped_atom}
+use Rattle.step_laws.proofs.Arms.{can_step_as, numbers_step_as, stepped_as, when_stepped}
+use Rattle.step_laws.proofs.NumbersTyped.{given_stepped}
+use Rattle.step_laws.proofs.PlainArms.{atom_steps, atom_steps_none, atom_steps_other}
 use Rattle.eval_tree.proofs.atom.step_atom.Goals as goal
 
 pub put_value-requires : goal.put_value-requires

@@ -3,7 +3,7 @@ use Rattle.rate_expr.specs.declared.state.State.TheVariants.{Initial}
 use Rattle.symbolic_nfa.specs.Automata.{Automaton}
 use Rattle.symbolic_nfa.specs.States.{Extends}
 use Rattle.map_collect.specs.Tracks.{starts_of}
-use Rattle.eval_tree.proofs.CollectBegun.{place_test}
+use Rattle.step_laws.proofs.CollectBegun.{place_test}
 use Rattle.eval_tree.proofs.collect.can_track.Goals as goal
 
 pub returns-then-extends : goal.returns-then-extends

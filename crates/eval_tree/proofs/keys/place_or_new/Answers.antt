@@ -5,7 +5,7 @@ use Rattle.map_collect.specs.Keys.{names_of}
 use Rattle.eval_nodes.specs.declared.progress.Progress.{Progress}
 use Rattle.eval_nodes.specs.Copies.{IsCopy, IsCopyOf}
 use Rattle.eval_nodes.specs.Plain.{seen_of}
-use Rattle.eval_tree.proofs.KeysPushed.{last_read}
+use Rattle.step_laws.proofs.KeysPushed.{last_read}
 use Rattle.eval_tree.proofs.keys.place_or_new.Goals as goal
 
 pub returns-in-Some-clause-has : goal.returns-in-Some-clause-has

@@ -3,7 +3,7 @@ use Rattle.value_ops.specs.Entries.{value_at}
 use Rattle.value_ops.specs.declared.scalar.Scalar.{Scalar}
 use Rattle.map_collect.specs.Keys.{followers_of, names_of}
 use Rattle.eval_nodes.specs.Plain.{seen_of}
-use Rattle.eval_tree.proofs.KeysTabled.{absent, entries_one, entries_same, table_whole}
+use Rattle.step_laws.proofs.KeysTabled.{absent, entries_one, entries_same, table_whole}
 use Rattle.eval_tree.proofs.tables.keys_table.Goals as goal
 use Rattle.eval_tree.proofs.tables.keys_table.Goals.{in-Some+in_ok-push, in_default}
 

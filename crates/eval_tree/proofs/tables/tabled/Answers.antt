@@ -1,8 +1,8 @@
 use Rattle.std.proofs.Common.{refl, sym, subst}
 use Rattle.eval_nodes.specs.Plain.{seen_of}
-use Rattle.eval_tree.specs.declared.hit.Hit.{Hit}
-use Rattle.eval_tree.specs.Pushes.{IsTabledAt}
-use Rattle.eval_tree.proofs.Tracked.{accepted_within}
+use Rattle.step_laws.specs.declared.hit.Hit.{Hit}
+use Rattle.step_laws.specs.Pushes.{IsTabledAt}
+use Rattle.step_laws.proofs.Tracked.{accepted_within}
 use Rattle.eval_tree.proofs.tables.tabled.Goals as goal
 
 pub keys-requires : goal.keys-requires

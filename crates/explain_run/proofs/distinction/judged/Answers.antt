@@ -1,7 +1,7 @@
 use Rattle.query_model.specs.Monitors.{monitor_of}
 use Rattle.query_syntax.specs.Plain.{plain_program}
 use Rattle.query_syntax.proofs.WithinLimits.{stream_within}
-use Rattle.sqre_run.specs.Compiled as compiled
+use Rattle.query_compiler.specs.Compiled as compiled
 use Rattle.type_checker.specs.Judged.{accepted}
 use Rattle.explain_run.proofs.distinction.judged.Goals as goal
 

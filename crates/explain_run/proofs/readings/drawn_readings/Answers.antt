@@ -1,4 +1,4 @@
-use Rattle.sqre_run.proofs.Shortest.{blamed_found, blamed_share}
+use Rattle.query_compiler.proofs.Shortest.{blamed_found, blamed_share}
 use Rattle.explain_run.proofs.Blaming.{draws_blame}
 use Rattle.explain_run.proofs.readings.drawn_readings.Goals as goal
 

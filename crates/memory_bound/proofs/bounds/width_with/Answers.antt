@@ -1,8 +1,8 @@
 -- As wide as it has parts.
 use Rattle.std.proofs.Common.{◌≡◌, ◌∙◌, List, [], ◌∷◌, length, refl, ap, sym, arith}
-use Rattle.value_ops.specs.declared.expr.Expr.{Expr}
-use Rattle.value_ops.specs.Expressions.{count_of, plain_parts}
-use Rattle.value_ops.proofs.RecordParts.{plain_record}
+use Rattle.expressions.specs.declared.expr.Expr.{Expr}
+use Rattle.expressions.specs.Expressions.{count_of, plain_parts}
+use Rattle.expressions.proofs.RecordParts.{plain_record}
 use Rattle.query_model.specs.Bounds.{width_with}
 use Rattle.memory_bound.proofs.bounds.width_with.Goals as goal
 

@@ -1,5 +1,5 @@
 use Rattle.std.proofs.Common.{◌≡◌, ◌++◌, map, drop}
-use Rattle.predicate_cells.specs.Plain.{plain_of}
+use Rattle.predicates.specs.Plain.{plain_of}
 use Rattle.predicate_cells.specs.Ranks.{ranks_from}
 use Rattle.predicate_cells.proofs.columns.classes_of.Given as goal
 

@@ -1,5 +1,5 @@
 use Rattle.std.proofs.Common.{◌&&◌, ◌||◌, not, true, sym, ◌∙◌}
-use Rattle.predicate_cells.specs.Plain.{plain_of}
+use Rattle.predicates.specs.Plain.{plain_of}
 use Rattle.predicate_cells.specs.Samples.{samples}
 use Rattle.predicate_cells.proofs.PredTests.{is_test}
 use Rattle.predicate_cells.proofs.SampleCells.{length_samples, map_constant, map-map}

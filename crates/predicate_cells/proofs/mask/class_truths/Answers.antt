@@ -1,9 +1,9 @@
 use Rattle.std.proofs.Common.{◌++◌, ◌∷◌, [], Some, ap₂, sym, ◌∙◌, arith}
 use Rattle.std.proofs.lemmas.List.FromFn.{map-range_with_len_more}
-use Rattle.predicate_cells.specs.Plain.{plain_of}
+use Rattle.predicates.specs.Plain.{plain_of}
 use Rattle.predicate_cells.specs.Ranks.{field_in}
 use Rattle.predicate_cells.specs.Samples.{row_of}
-use Rattle.predicate_cells.specs.Truth.{holds}
+use Rattle.predicates.specs.Truth.{holds}
 use Rattle.predicate_cells.proofs.mask.class_truths.Goals as goal
 
 pub loop-class-preserved : goal.loop-class-preserved

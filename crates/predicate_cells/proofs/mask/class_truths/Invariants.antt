@@ -1,9 +1,9 @@
 use Rattle.std.proofs.Common.{◌≡◌, Some, map}
 use Rattle.std.specs.List.{range_with_len}
-use Rattle.predicate_cells.specs.Plain.{plain_of}
+use Rattle.predicates.specs.Plain.{plain_of}
 use Rattle.predicate_cells.specs.Ranks.{field_in}
 use Rattle.predicate_cells.specs.Samples.{row_of}
-use Rattle.predicate_cells.specs.Truth.{holds}
+use Rattle.predicates.specs.Truth.{holds}
 use Rattle.predicate_cells.proofs.mask.class_truths.Given as goal
 
 -- the truths of the classes so far stand there

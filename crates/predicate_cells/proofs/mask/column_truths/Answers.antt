@@ -2,9 +2,9 @@ use Rattle.std.proofs.Common.{◌+◌, length, refl, ap, ◌∙◌, add-one, ari
 use Rattle.std.proofs.lemmas.List.{take_rest}
 use Rattle.std.proofs.lemmas.List.FromFn.{length-map-range_with_len}
 use Rattle.std.proofs.lemmas.Option.{slice_get_read}
-use Rattle.predicate_cells.specs.Plain.{plain_of}
+use Rattle.predicates.specs.Plain.{plain_of}
 use Rattle.predicate_cells.specs.Samples.{row_of}
-use Rattle.predicate_cells.specs.Truth.{holds}
+use Rattle.predicates.specs.Truth.{holds}
 use Rattle.predicate_cells.proofs.ColumnSteps.{take_le, drop_le, block_le}
 use Rattle.predicate_cells.proofs.SampleCells.{column_truths, no_truths}
 use Rattle.predicate_cells.proofs.mask.column_truths.Goals as goal

@@ -1,5 +1,5 @@
 use Rattle.std.proofs.Common.{◌+◌, ◌*◌, max}
-use Rattle.predicate_cells.specs.declared.pred.Pred.{size-Pred}
+use Rattle.predicates.specs.declared.pred.Pred.{size-Pred}
 use Rattle.predicate_cells.proofs.starts.+push.Given as goal
 
 -- how deep the predicate is; those of two predicates stand above them

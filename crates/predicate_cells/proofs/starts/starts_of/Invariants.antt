@@ -1,7 +1,7 @@
 use Rattle.std.proofs.Common.{◌≡◌, map, filter, take}
 use Rattle.std.specs.List.{flat_map}
 use Rattle.predicate_cells.specs.Classes.{beginnings, begins_class}
-use Rattle.predicate_cells.specs.Plain.{plain_of}
+use Rattle.predicates.specs.Plain.{plain_of}
 use Rattle.predicate_cells.proofs.starts.starts_of.Given as goal
 
 -- the starts that the tests so far begin

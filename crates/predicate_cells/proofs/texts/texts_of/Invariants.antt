@@ -2,7 +2,7 @@ use Rattle.std.proofs.Common.{◌≡◌, map, filter, take}
 use Rattle.std.specs.List.{flat_map}
 use Rattle.value_ops.specs.Texts.{are_bytes}
 use Rattle.predicate_cells.specs.Classes.{named_texts}
-use Rattle.predicate_cells.specs.Plain.{plain_of}
+use Rattle.predicates.specs.Plain.{plain_of}
 use Rattle.predicate_cells.proofs.texts.texts_of.Given as goal
 
 -- the texts that the tests so far name

@@ -1,6 +1,6 @@
 use Rattle.std.proofs.Common.{◌∷◌, [], sym, subst}
 use Rattle.std.proofs.lemmas.Result.{on_ok_weaker}
-use Rattle.predicate_cells.specs.Plain as predicate
+use Rattle.predicates.specs.Plain as predicate
 use Rattle.query_model.specs.Members.{Gathers}
 use Rattle.query_model.proofs.SameMembers.{gathered_new}
 use Rattle.query_model.proofs.cells.add_once.Goals as goal

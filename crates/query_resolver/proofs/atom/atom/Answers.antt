@@ -1,12 +1,12 @@
 use Rattle.std.proofs.Common.{ap, refl}
 use Rattle.std.proofs.lemmas.Result.{err_from_is_err_and}
-use Rattle.predicate_cells.specs.Plain as predicates
+use Rattle.predicates.specs.Plain as predicates
 use Rattle.query_model.specs.Queries.{plain_of}
 use Rattle.query_model.specs.QueryTypes.{of_columns}
 use Rattle.query_syntax.specs.Plain.{plain_expression, plain_predicate}
 use Rattle.query_resolver.specs.Findings.{places_at}
 use Rattle.query_resolver.specs.Resolutions.{columns_of}
-use Rattle.value_ops.specs.Expressions as values
+use Rattle.expressions.specs.Expressions as values
 use Rattle.query_resolver.proofs.Atoms.{atom_made}
 use Rattle.query_resolver.proofs.atom.atom.Goals as goal
 

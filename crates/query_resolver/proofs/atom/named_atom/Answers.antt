@@ -1,5 +1,5 @@
 use Rattle.std.proofs.lemmas.Result.{err_from_is_err_and}
-use Rattle.predicate_cells.specs.Plain as predicates
+use Rattle.predicates.specs.Plain as predicates
 use Rattle.query_syntax.specs.Plain.{plain_expression, plain_predicate}
 use Rattle.query_resolver.proofs.Atoms.{test_refused, value_refused}
 use Rattle.query_resolver.proofs.atom.named_atom.Goals as goal

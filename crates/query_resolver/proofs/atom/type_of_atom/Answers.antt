@@ -1,9 +1,9 @@
 use Rattle.std.proofs.Common.{◌≡◌, true, rules, subst}
-use Rattle.predicate_cells.specs.Fits.{fits}
-use Rattle.predicate_cells.specs.Plain as predicates
+use Rattle.predicates.specs.Fits.{fits}
+use Rattle.predicates.specs.Plain as predicates
 use Rattle.query_resolver.specs.Resolutions.{columns_of}
-use Rattle.value_ops.specs.Expressions as values
-use Rattle.value_ops.specs.Typing.{HasType, Types}
+use Rattle.expressions.specs.Expressions as values
+use Rattle.expressions.specs.Typing.{HasType, Types}
 use Rattle.query_resolver.proofs.Atoms.{are_columns, ill_typed, types_in, unfit}
 use Rattle.query_resolver.proofs.atom.type_of_atom.Goals as goal
 

@@ -10,9 +10,9 @@ use Rattle.query_resolver.proofs.Chosen.{all_chosen, no_branches, no_test}
 use Rattle.query_resolver.proofs.Parts.{AreResolved, all_left, as_many_left, more_resolved}
 use Rattle.query_resolver.proofs.Parts.{none_left}
 use Rattle.query_resolver.proofs.Parts.{none_resolved}
-use Rattle.value_ops.specs.Expressions.{Expressions, choice, plain_of, rec}
-use Rattle.value_ops.specs.declared.expr.Expr.{Expr, Rec}
-use Rattle.value_ops.proofs.RecordParts.{rec_of}
+use Rattle.expressions.specs.Expressions.{Expressions, choice, plain_of, rec}
+use Rattle.expressions.specs.declared.expr.Expr.{Expr, Rec}
+use Rattle.expressions.proofs.RecordParts.{rec_of}
 use Rattle.query_resolver.proofs.expression.+resolve.Goals as goal
 
 pub choice_over-returns-in_default-clause-made : goal.choice_over-returns-in_default-clause-made

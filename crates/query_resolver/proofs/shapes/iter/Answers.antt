@@ -2,7 +2,7 @@ use Rattle.std.proofs.Common.{◌∙◌, ap, rules}
 use Rattle.std.proofs.lemmas.Result.{err_from_is_err_and}
 use Rattle.query_model.specs.Queries.{plain_of}
 use Rattle.query_syntax.specs.Plain.{plain_expression}
-use Rattle.value_ops.specs.Shown.{shown_types}
+use Rattle.expressions.specs.Shown.{shown_types}
 use Rattle.query_resolver.specs.Findings.{places_at}
 use Rattle.query_resolver.proofs.Shaping.{iter_refused, iter_made}
 use Rattle.query_resolver.proofs.shapes.iter.Goals as goal

@@ -1,6 +1,6 @@
 use Rattle.std.proofs.Common.{ap, refl}
 use Rattle.std.proofs.lemmas.Result.{err_from_is_err_and}
-use Rattle.predicate_cells.specs.Plain as predicates
+use Rattle.predicates.specs.Plain as predicates
 use Rattle.query_model.specs.Queries.{plain_of}
 use Rattle.query_syntax.specs.Plain.{plain_predicate, plain_rate}
 use Rattle.rate_expr.specs.Plain as rates

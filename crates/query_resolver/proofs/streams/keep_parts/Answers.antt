@@ -1,5 +1,5 @@
 use Rattle.std.proofs.Common.{◌≡◌, ◌∙◌, false, true, ap, rules}
-use Rattle.predicate_cells.specs.Plain as predicates
+use Rattle.predicates.specs.Plain as predicates
 use Rattle.rate_expr.specs.Plain as rates
 use Rattle.query_resolver.specs.Nestings.{nesting_of}
 use Rattle.query_resolver.specs.Resolutions.{parts_fit}

@@ -1,5 +1,5 @@
 use Rattle.std.proofs.lemmas.Result.{err_from_is_err_and}
-use Rattle.predicate_cells.specs.Plain as predicates
+use Rattle.predicates.specs.Plain as predicates
 use Rattle.query_syntax.specs.Plain.{plain_predicate, plain_rate}
 use Rattle.query_resolver.proofs.Collecting.{key_refused, rate_refused, sync_refused}
 use Rattle.query_resolver.proofs.streams.named_parts.Goals as goal

@@ -1,6 +1,6 @@
 use Rattle.std.proofs.Common.{sym}
-use Rattle.value_ops.specs.Expressions.{plain_of}
-use Rattle.value_ops.specs.Shown.{shown_types}
+use Rattle.expressions.specs.Expressions.{plain_of}
+use Rattle.expressions.specs.Shown.{shown_types}
 use Rattle.value_ops.specs.declared.value.ValueType.TheVariants.{Number}
 use Rattle.query_resolver.proofs.WellTyped.{is_number_true, no_number, record_is_no_number}
 use Rattle.query_resolver.proofs.WellTyped.{table_is_no_number}

@@ -2,8 +2,8 @@ use Rattle.std.proofs.Common.{◌≡◌, false, true, rules, sym}
 use Rattle.query_syntax.specs.Plain.{plain_expression}
 use Rattle.query_resolver.specs.Expressions.{is_number}
 use Rattle.query_resolver.specs.Scopes.{plain_scope}
-use Rattle.value_ops.specs.Expressions.{plain_of}
-use Rattle.value_ops.specs.Shown.{shown_types}
+use Rattle.expressions.specs.Expressions.{plain_of}
+use Rattle.expressions.specs.Shown.{shown_types}
 use Rattle.query_resolver.proofs.Valued.{fails_number, unnamed_number}
 use Rattle.query_resolver.proofs.WellTyped.{number_is}
 use Rattle.query_resolver.proofs.typed_expressions.number_over.Goals as goal

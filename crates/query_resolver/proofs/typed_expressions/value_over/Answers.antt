@@ -1,8 +1,8 @@
 use Rattle.std.proofs.Common.{sym}
 use Rattle.query_syntax.specs.Plain.{plain_expression}
 use Rattle.query_resolver.specs.Scopes.{plain_scope}
-use Rattle.value_ops.specs.Expressions.{plain_of}
-use Rattle.value_ops.specs.Shown.{shown_types}
+use Rattle.expressions.specs.Expressions.{plain_of}
+use Rattle.expressions.specs.Shown.{shown_types}
 use Rattle.query_resolver.proofs.Valued.{unfit, unnamed}
 use Rattle.query_resolver.proofs.WellTyped.{is_typed_true, type_is, well_typed}
 use Rattle.query_resolver.proofs.typed_expressions.value_over.Goals as goal

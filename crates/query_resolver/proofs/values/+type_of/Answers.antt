@@ -3,7 +3,7 @@ use Rattle.query_model.specs.Queries.{plain_of}
 use Rattle.query_model.specs.QueryTypes.{derived_columns, of_columns, type_of}
 use Rattle.query_model.specs.declared.query.Shape.TheViews.{the_lemmas}
 use Rattle.query_resolver.specs.Findings.{KeepsTypes}
-use Rattle.value_ops.specs.Expressions as values
+use Rattle.expressions.specs.Expressions as values
 use Rattle.value_ops.specs.declared.value.ValueType.{ValueType}
 use Rattle.query_resolver.proofs.ValueTypes.{known_value}
 use Rattle.query_resolver.proofs.FieldTypes.{over_fields, over_one_value, over_two_values}

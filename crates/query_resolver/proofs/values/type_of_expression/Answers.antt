@@ -1,8 +1,8 @@
 use Rattle.std.proofs.Common.{◌∙◌, ap, sym}
 use Rattle.query_model.specs.QueryTypes.{type_of_expression}
-use Rattle.value_ops.specs.Shown.{shown_types}
+use Rattle.expressions.specs.Shown.{shown_types}
 use Rattle.value_ops.specs.declared.value.ValueType.TheVariants.{Rec}
-use Rattle.value_ops.proofs.RecordParts.{plain_record}
+use Rattle.expressions.proofs.RecordParts.{plain_record}
 use Rattle.query_resolver.proofs.Parts.{counted}
 use Rattle.query_resolver.proofs.values.type_of_expression.Goals as goal
 

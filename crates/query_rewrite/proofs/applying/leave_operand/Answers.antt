@@ -2,7 +2,7 @@
 use Rattle.std.proofs.Common.{◌≡◌, ap}
 use Rattle.query_model.specs.Queries.{plain_of}
 use Rattle.query_model.specs.declared.query.Shape.{Apply}
-use Rattle.value_ops.specs.Expressions as values
+use Rattle.expressions.specs.Expressions as values
 use Rattle.query_rewrite.proofs.applying.leave_operand.Goals as goal
 
 pub returns-in-Apply : goal.returns-in-Apply

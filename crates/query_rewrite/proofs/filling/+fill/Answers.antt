@@ -1,8 +1,8 @@
 -- A record is made of its parts, each filled.
 use Rattle.std.proofs.Common.{◌≡◌, ◌≤◌, IfOk, length, subst, sym, arith}
-use Rattle.value_ops.specs.declared.expr.Expr.{Expr}
-use Rattle.value_ops.specs.Expressions.{Expression, plain_of}
-use Rattle.value_ops.proofs.RecordParts.{plain_record}
+use Rattle.expressions.specs.declared.expr.Expr.{Expr}
+use Rattle.expressions.specs.Expressions.{Expression, plain_of}
+use Rattle.expressions.proofs.RecordParts.{plain_record}
 use Rattle.query_rewrite.specs.Filling.{filled}
 use Rattle.query_rewrite.proofs.Records.{filled_all}
 use Rattle.query_rewrite.proofs.filling.+fill.Goals as goal

@@ -1,6 +1,6 @@
 use Rattle.std.proofs.Common.{◌≡◌, ◌+◌, ◌*◌, max, map, take}
-use Rattle.value_ops.specs.declared.expr.Expr.{size-Expr}
-use Rattle.value_ops.specs.Expressions.{plain_of}
+use Rattle.expressions.specs.declared.expr.Expr.{size-Expr}
+use Rattle.expressions.specs.Expressions.{plain_of}
 use Rattle.query_rewrite.specs.Filling.{filled}
 use Rattle.query_rewrite.proofs.filling.+fill.Given as goal
 
@@ -37,4 +37,5 @@ decreases-filled_record l = 3 * goal.size-filled_record l + 2
 -- this many parts are filled
 abbrev pub invariant-filled_record-parts : goal.invariant-filled_record-parts
 invariant-filled_record-parts l =
-    map plain_of l.made.items ≡ map (λ part. filled (plain_of l.inner) (plain_of part)) (take l.part-index l.parts)
+    map plain_of l.made.items
+    ≡ map (λ part. filled (plain_of l.inner) (plain_of part)) (take l.part-index l.parts)

@@ -1,5 +1,5 @@
 use Rattle.std.proofs.Common.{◌+◌}
-use Rattle.value_ops.specs.Expressions.{plain_of, plain_parts}
+use Rattle.expressions.specs.Expressions.{plain_of, plain_parts}
 use Rattle.query_rewrite.proofs.Measures.{weight_of, weight_of_all}
 use Rattle.query_rewrite.proofs.levels.+levels.Given as goal
 

@@ -1,7 +1,7 @@
 -- The levels are counted without making the expression.
 use Rattle.std.proofs.Common.{◌≡◌, ◌∙◌, ◌&&◌, true, ap, sym}
 use Rattle.std.specs.Prelude.{◌||◌, nat_le}
-use Rattle.value_ops.specs.Expressions.{plain_of}
+use Rattle.expressions.specs.Expressions.{plain_of}
 use Rattle.query_rewrite.specs.Counting.{is_read_once, reading_of}
 use Rattle.query_rewrite.specs.Filling.{filled}
 use Rattle.query_rewrite.specs.Levels.{levels_of, max_levels}

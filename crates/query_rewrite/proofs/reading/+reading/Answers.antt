@@ -1,7 +1,7 @@
 -- A record reads the left value as its parts do.
 use Rattle.std.proofs.Common.{◌≡◌, ◌∙◌, ◌+◌, ◌<◌, ap, sym, arith}
 use Rattle.query_rewrite.specs.Counting.{reading_of}
-use Rattle.value_ops.proofs.RecordParts.{plain_record}
+use Rattle.expressions.proofs.RecordParts.{plain_record}
 use Rattle.query_rewrite.proofs.Measures.{weight_of}
 use Rattle.query_rewrite.proofs.reading.+reading.Goals as goal
 

@@ -1,4 +1,4 @@
-use Rattle.value_ops.specs.Expressions.{plain_of, plain_parts}
+use Rattle.expressions.specs.Expressions.{plain_of, plain_parts}
 use Rattle.query_rewrite.proofs.Measures.{weight_of, weight_of_all}
 use Rattle.query_rewrite.proofs.reading.+reading.Given as goal
 

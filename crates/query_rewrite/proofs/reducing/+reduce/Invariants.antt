@@ -1,6 +1,6 @@
 use Rattle.std.proofs.Common.{◌≡◌, ◌+◌, ◌*◌, max, map, take}
-use Rattle.value_ops.specs.declared.expr.Expr.{size-Expr}
-use Rattle.value_ops.specs.Expressions.{plain_of}
+use Rattle.expressions.specs.declared.expr.Expr.{size-Expr}
+use Rattle.expressions.specs.Expressions.{plain_of}
 use Rattle.query_rewrite.specs.Reducing.{reduced}
 use Rattle.query_rewrite.proofs.reducing.+reduce.Given as goal
 

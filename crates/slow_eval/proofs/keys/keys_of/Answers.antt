@@ -1,5 +1,5 @@
 use Rattle.std.proofs.Common.{◌≡◌, ◌+◌, ◌∙◌, ◌++◌, ◌∷◌, [], length, sym, subst, ap, arith}
-use Rattle.predicate_cells.specs.Plain.{plain_of}
+use Rattle.predicates.specs.Plain.{plain_of}
 use Rattle.query_model.specs.Denotation.{with_key}
 use Rattle.slow_eval.proofs.Keying.{AreKeysSoFar, and_added, and_kept, keys_and, keys_step}
 use Rattle.slow_eval.proofs.keys.keys_of.Goals as goal

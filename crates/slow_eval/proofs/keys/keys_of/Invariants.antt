@@ -1,4 +1,4 @@
-use Rattle.predicate_cells.specs.Plain.{plain_of}
+use Rattle.predicates.specs.Plain.{plain_of}
 use Rattle.slow_eval.proofs.Keying.{AreKeysSoFar}
 use Rattle.slow_eval.proofs.keys.keys_of.Given as goal
 

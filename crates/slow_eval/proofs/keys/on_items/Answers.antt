@@ -1,5 +1,5 @@
 use Rattle.std.proofs.Common.{rules, ◌≡◌, ◌<◌, ◌∙◌, ◌+◌, length, take, sym, subst, arith}
-use Rattle.predicate_cells.specs.Plain.{plain_of}
+use Rattle.predicates.specs.Plain.{plain_of}
 use Rattle.query_model.specs.Denotation.{projection}
 use Rattle.slow_eval.proofs.Joining.{read_answer}
 use Rattle.slow_eval.proofs.Keying.{IsOnItemsSoFar, counted, items_step, passed, projection_shorter}

@@ -1,4 +1,4 @@
-use Rattle.predicate_cells.specs.Plain.{plain_of}
+use Rattle.predicates.specs.Plain.{plain_of}
 use Rattle.slow_eval.proofs.Keying.{IsOnItemsSoFar}
 use Rattle.slow_eval.proofs.keys.on_items.Given as goal
 

@@ -1,5 +1,5 @@
 use Rattle.std.proofs.Common.{◌≡◌, take}
-use Rattle.predicate_cells.specs.Plain.{plain_of}
+use Rattle.predicates.specs.Plain.{plain_of}
 use Rattle.query_model.specs.Denotation.{projection}
 use Rattle.slow_eval.proofs.keys.projection.Given as goal
 

@@ -1,10 +1,10 @@
 use Rattle.std.proofs.Common.{List, None, subst, sym}
-use Rattle.value_ops.specs.Evaluation.{given}
+use Rattle.expressions.specs.Evaluation.{given}
 use Rattle.value_ops.specs.declared.field.Field.{Field}
 use Rattle.value_ops.specs.declared.value.ValueType.{ValueType}
-use Rattle.value_ops.specs.Expressions as values
-use Rattle.value_ops.specs.Typing.{HasType, types_of}
-use Rattle.predicate_cells.specs.Plain as predicates
+use Rattle.expressions.specs.Expressions as values
+use Rattle.expressions.specs.Typing.{HasType, types_of}
+use Rattle.predicates.specs.Plain as predicates
 use Rattle.slow_eval.proofs.WellTyped.{atom_typed}
 use Rattle.slow_eval.proofs.leaf_answers.atom_answers.Goals as goal
 

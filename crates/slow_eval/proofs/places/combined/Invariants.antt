@@ -1,5 +1,5 @@
 use Rattle.std.proofs.Common.{◌≡◌, ◌<◌, ℕ, None, length, get_or}
-use Rattle.value_ops.specs.Expressions.{plain_of}
+use Rattle.expressions.specs.Expressions.{plain_of}
 use Rattle.slow_eval.specs.Rows.{IsOnBoth}
 use Rattle.slow_eval.proofs.places.combined.Given as goal
 

@@ -1,4 +1,4 @@
-use Rattle.value_ops.specs.Expressions.{plain_of}
+use Rattle.expressions.specs.Expressions.{plain_of}
 use Rattle.slow_eval.proofs.Joining.{IsBegun}
 use Rattle.slow_eval.proofs.places.join.Given as goal
 

@@ -1,4 +1,4 @@
-use Rattle.sqre_run.proofs.Shortest.{other_lines}
+use Rattle.sqre_run.proofs.BlameTexts.{other_lines}
 use Rattle.sqre_run.proofs.blame_text.blame_text.Goals as goal
 
 pub returns-in-Why : goal.returns-in-Why

@@ -1,4 +1,4 @@
-use Rattle.sqre_run.proofs.Shortest.{reason_found}
+use Rattle.sqre_run.proofs.BlameTexts.{reason_found}
 use Rattle.sqre_run.proofs.blame_text.reason_text.Goals as goal
 
 pub returns : goal.returns

@@ -1,4 +1,4 @@
-use Rattle.sqre_run.proofs.Shortest.{blamed_found, blamed_share, found_shortest}
+use Rattle.query_compiler.proofs.Shortest.{blamed_found, blamed_share, found_shortest}
 use Rattle.sqre_run.proofs.blame_text.shortest_word.Goals as goal
 
 pub example-requires : goal.example-requires

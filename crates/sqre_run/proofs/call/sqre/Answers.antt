@@ -1,9 +1,9 @@
 use Rattle.std.proofs.Common.{sym, ◌∙◌}
 use Rattle.query_model.specs.Monitors.{monitor_of}
-use Rattle.sqre_run.specs.Outside.{outside}
+use Rattle.stream_run.specs.Outside.{outside}
 use Rattle.sqre_run.proofs.Commands.{reported_blamed, reported_blamed_complete, reported_complete}
 use Rattle.sqre_run.proofs.Commands.{reported_outcome, reported_refused, reported_refused_complete}
-use Rattle.sqre_run.proofs.EndedPart.{one_more}
+use Rattle.stream_run.proofs.EndedPart.{one_more}
 use Rattle.sqre_run.proofs.FirstEnds.{reads_asked}
 use Rattle.sqre_run.proofs.QueryReads.{reads_carried, reads_refusal}
 use Rattle.sqre_run.proofs.call.sqre.Goals as goal

@@ -1,8 +1,8 @@
 use Rattle.std.proofs.Common.{rules, arith, ◌∙◌, [], refl, sym, subst}
 use Rattle.std.specs.Prelude.{pos, FitsSigned}
 use Rattle.std.specs.Int.{w64}
-use Rattle.value_ops.specs.Expressions.{binary, read}
-use Rattle.value_ops.specs.declared.expr.Var.TheVariants as var
+use Rattle.expressions.specs.Expressions.{binary, read}
+use Rattle.expressions.specs.declared.expr.Var.TheVariants as var
 use Rattle.language_base.specs.declared.binary.BinaryOp.TheVariants as op
 use Rattle.query_model.specs.declared.query.Query.{Query}
 use Rattle.query_model.specs.Queries.{eps, plain_of, split}

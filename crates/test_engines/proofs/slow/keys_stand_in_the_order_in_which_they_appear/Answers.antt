@@ -1,12 +1,12 @@
 use Rattle.std.proofs.Common.{rules, arith, ℕ, List, [], ◌∷◌, refl, sym, subst}
 use Rattle.std.specs.Prelude.{codes, pos, FitsSigned}
 use Rattle.std.specs.Int.{w64}
-use Rattle.value_ops.specs.Expressions.{literal}
+use Rattle.expressions.specs.Expressions.{literal}
 use Rattle.value_ops.specs.declared.field.Field.{Field}
 use Rattle.value_ops.specs.declared.field.Field.TheVariants as field
 use Rattle.item_schema.specs.declared.column.Column.{Column}
 use Rattle.item_schema.specs.declared.column.Kind.TheVariants as kind
-use Rattle.predicate_cells.specs.Predicates.{any, eq_text}
+use Rattle.predicates.specs.Predicates.{any, eq_text}
 use Rattle.rate_expr.specs.Rates.{one, star}
 use Rattle.query_model.specs.declared.query.Query.{Query}
 use Rattle.query_model.specs.Queries.{atom, collect, plain_of}

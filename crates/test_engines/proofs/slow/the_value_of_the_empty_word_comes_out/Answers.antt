@@ -1,13 +1,13 @@
 use Rattle.std.proofs.Common.{rules, [], ◌∷◌, refl, sym, subst}
 use Rattle.std.specs.Prelude.{pos, FitsSigned}
 use Rattle.std.specs.Int.{w64}
-use Rattle.value_ops.specs.Expressions.{read}
-use Rattle.value_ops.specs.declared.expr.Var.TheVariants as var
+use Rattle.expressions.specs.Expressions.{read}
+use Rattle.expressions.specs.declared.expr.Var.TheVariants as var
 use Rattle.value_ops.specs.declared.field.Field.TheVariants as field
 use Rattle.value_ops.specs.declared.scalar.Scalar.TheVariants.{Overflow}
 use Rattle.value_ops.specs.declared.value.Value.TheVariants as value
 use Rattle.value_ops.specs.declared.value.ValueType.TheVariants as type
-use Rattle.predicate_cells.specs.Predicates.{any}
+use Rattle.predicates.specs.Predicates.{any}
 use Rattle.query_model.specs.declared.query.Query.{Query}
 use Rattle.query_model.specs.Queries.{atom, compose, eps, plain_of}
 use Rattle.query_model.specs.QueryTypes.{derived_columns}

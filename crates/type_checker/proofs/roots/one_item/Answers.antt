@@ -1,6 +1,6 @@
 use Rattle.std.proofs.Common.{refl}
 use Rattle.std.proofs.lemmas.Result.{err_from_is_err_and}
-use Rattle.predicate_cells.specs.Plain.{plain_of}
+use Rattle.predicates.specs.Plain.{plain_of}
 use Rattle.query_model.specs.Queries.{atom}
 use Rattle.type_checker.proofs.Ruled.{broken_by, kept_by, on_same}
 use Rattle.type_checker.proofs.roots.one_item.Goals as goal

@@ -1,12 +1,12 @@
 use Rattle.std.proofs.Common.{◌≡◌, ◌++◌, inl, inr, ap, arith, refl, rules, subst}
-use Rattle.predicate_cells.specs.Plain as predicates
+use Rattle.predicates.specs.Plain as predicates
 use Rattle.query_model.specs.Rules.{free}
 use Rattle.rate_expr.specs.Plain.{plain_of}
 use Rattle.rate_expr.specs.Rates.{preds_of}
 use Rattle.rate_expr.specs.declared.rate.Rate.{Rate}
 use Rattle.rate_expr.specs.declared.rate.Rate.TheViews.{the_lemmas}
-use Rattle.value_ops.specs.Expressions.{read}
-use Rattle.value_ops.specs.declared.expr.Var.TheVariants.{Left}
+use Rattle.expressions.specs.Expressions.{read}
+use Rattle.expressions.specs.declared.expr.Var.TheVariants.{Left}
 use Rattle.query_resolver.specs.Findings.{AreAmong}
 use Rattle.type_checker.proofs.Asked.{among_back}
 use Rattle.type_checker.proofs.SomeMet.{both_met, one_met}

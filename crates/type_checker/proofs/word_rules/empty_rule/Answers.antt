@@ -1,5 +1,5 @@
 use Rattle.std.proofs.Common.{rules}
-use Rattle.predicate_cells.specs.Plain.{plain_of}
+use Rattle.predicates.specs.Plain.{plain_of}
 use Rattle.type_checker.proofs.SomeItem.{some_item}
 use Rattle.type_checker.proofs.word_rules.empty_rule.Goals as goal
 

@@ -1,5 +1,5 @@
 use Rattle.std.proofs.Common.{[], arith, ap}
-use Rattle.sqre_run.proofs.Sessions.{ready_begins}
+use Rattle.stream_run.proofs.Sessions.{ready_begins}
 use Rattle.cases_queries.proofs.tables.transcripts.transcript_of.Goals as goal
 
 pub items-init : goal.items-init

@@ -4,7 +4,7 @@ use Rattle.query_model.specs.declared.query.Query.{Query}
 use Rattle.query_model.specs.Queries.{plain_of}
 use Rattle.query_model.specs.Rules.{free}
 use Rattle.eval_nodes.specs.Plain.{seen_of}
-use Rattle.eval_tree.specs.Feeds.{CanCarry, IsCarried}
+use Rattle.step_laws.specs.Feeds.{CanCarry, IsCarried}
 use Rattle.eval_runner.proofs.RunnerSteps.{carried, carry_next, found_sound}
 use Rattle.eval_runner.proofs.NumberRunners.{runner_carries}
 use Rattle.eval_runner.proofs.follower.RunnerFollower.step.Goals as goal

@@ -3,7 +3,7 @@ use Rattle.std.proofs.Common.{◌∙◌, refl, subst, sym}
 use Rattle.query_model.specs.declared.query.Query.{Query}
 use Rattle.query_model.specs.Queries.{plain_of}
 use Rattle.eval_nodes.specs.Plain.{seen_of}
-use Rattle.eval_tree.specs.Feeds.{IsRenewed}
+use Rattle.step_laws.specs.Feeds.{IsRenewed}
 use Rattle.eval_runner.specs.Following.{columns_of, query_of}
 use Rattle.eval_runner.proofs.RunnerSteps.{bare_sound, never_err, renewed_at, when_ok}
 use Rattle.eval_runner.proofs.NumberRunners.{runner_begins, runner_may_begin}

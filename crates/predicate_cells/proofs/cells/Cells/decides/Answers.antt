@@ -1,5 +1,5 @@
-use Rattle.predicate_cells.specs.Plain.{plain_of}
-use Rattle.predicate_cells.proofs.Mapped.{found_is_member}
+use Rattle.predicates.specs.Plain.{plain_of}
+use Rattle.predicates.proofs.Mapped.{found_is_member}
 use Rattle.predicate_cells.proofs.cells.Cells.decides.Goals as goal
 
 pub returns : goal.returns

@@ -1,12 +1,12 @@
 use Rattle.std.proofs.Common.{◌≡◌, get_or, ap, ◌∙◌}
 use Rattle.predicate_cells.specs.Cells.{Partition}
 use Rattle.predicate_cells.specs.CellSets.{flagged_from}
-use Rattle.predicate_cells.specs.Plain.{plain_of}
+use Rattle.predicates.specs.Plain.{plain_of}
 use Rattle.predicate_cells.specs.Ranks.{ranks_from}
 use Rattle.predicate_cells.specs.Samples.{mask_in}
 use Rattle.predicate_cells.proofs.CellsMarked.{truths, truths_mark, length_truths}
 use Rattle.predicate_cells.proofs.Flags.{flags_below, flags_rise}
-use Rattle.predicate_cells.proofs.Mapped.{image_got}
+use Rattle.predicates.proofs.Mapped.{image_got}
 use Rattle.predicate_cells.proofs.cells.Cells.mask.Goals as goal
 
 -- the mask has the cells whose samples meet the predicate

@@ -1,8 +1,8 @@
 -- A collection: its operand, then its root.
 use Rattle.std.proofs.Common.{rules, []}
 use Rattle.std.proofs.lemmas.Result.{err_from_is_err_and}
-use Rattle.predicate_cells.specs.Plain as predicates
-use Rattle.predicate_cells.specs.Predicates.{any}
+use Rattle.predicates.specs.Plain as predicates
+use Rattle.predicates.specs.Predicates.{any}
 use Rattle.query_model.specs.Queries as q
 use Rattle.query_model.specs.Queries.{plain_of}
 use Rattle.query_model.specs.declared.query.Shape.TheViews.{the_lemmas}

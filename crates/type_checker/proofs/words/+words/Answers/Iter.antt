@@ -5,7 +5,7 @@ use Rattle.query_model.specs.Queries as q
 use Rattle.query_model.specs.Queries.{plain_of}
 use Rattle.query_model.specs.declared.query.Shape.TheViews.{the_lemmas}
 use Rattle.symbolic_nfa.specs.Automata.{Automaton}
-use Rattle.value_ops.specs.Expressions as values
+use Rattle.expressions.specs.Expressions as values
 use Rattle.query_resolver.specs.Findings.{places_in}
 use Rattle.query_resolver.specs.Nodes.{with_one}
 use Rattle.type_checker.specs.Standings.{standing_of}

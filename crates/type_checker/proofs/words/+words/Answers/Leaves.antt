@@ -1,10 +1,10 @@
 -- A query of one item, and one of none.
 use Rattle.std.proofs.Common.{refl}
-use Rattle.predicate_cells.specs.Plain as predicates
+use Rattle.predicates.specs.Plain as predicates
 use Rattle.query_model.specs.Queries as q
 use Rattle.query_model.specs.Rates.{rate_of}
 use Rattle.rate_expr.specs.FirstLastFollow.{AreSetsOf}
-use Rattle.value_ops.specs.Expressions as values
+use Rattle.expressions.specs.Expressions as values
 use Rattle.type_checker.specs.Breaches.{IsBrokenAt, IsKept}
 use Rattle.query_resolver.specs.Nodes.{alone}
 use Rattle.type_checker.specs.Standings.{standing_of}

@@ -4,7 +4,7 @@ use Rattle.std.proofs.lemmas.Result.{err_from_is_err_and}
 use Rattle.query_model.specs.Queries as q
 use Rattle.query_model.specs.Queries.{plain_of}
 use Rattle.query_model.specs.declared.query.Shape.TheViews.{the_lemmas}
-use Rattle.value_ops.specs.Expressions as values
+use Rattle.expressions.specs.Expressions as values
 use Rattle.query_resolver.specs.Findings.{places_in}
 use Rattle.query_resolver.specs.Nodes.{with_two}
 use Rattle.type_checker.specs.Standings.{standing_of}

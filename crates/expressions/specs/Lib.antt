@@ -1,0 +1,4 @@
+pub mod Evaluation
+pub mod Expressions
+pub mod Shown
+pub mod Typing

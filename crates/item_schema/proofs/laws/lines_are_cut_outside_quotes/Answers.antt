@@ -1,5 +1,0 @@
-use Rattle.item_schema.proofs.CutLines.{record_of-texts}
-use Rattle.item_schema.proofs.laws.lines_are_cut_outside_quotes.Goals as goal
-
-pub returns : goal.returns
-returns c = record_of-texts

@@ -1,6 +1,0 @@
-use Rattle.item_schema.proofs.WrittenItems.{item_is_written, written_is_item}
-use Rattle.item_schema.proofs.laws.lines_write_their_items.Goals as goal
-
-pub returns : goal.returns
-returns c columns line fields =
-    (item_is_written columns line fields, written_is_item columns line fields)

@@ -1,0 +1,13 @@
+pub mod CutLines
+pub mod Cuts
+pub mod FieldTexts
+pub mod Fields
+pub mod Items
+pub mod LineBytes
+pub mod NumberLines
+pub mod Numerals
+pub mod PlainLines
+pub mod Sizes
+pub mod SkippedLines
+pub mod WrittenItems
+pub mod WrittenNumbers

@@ -1,0 +1,4 @@
+pub mod Cleared
+pub mod Clearing
+pub mod CopyParts
+pub mod Copying

@@ -1,0 +1,4 @@
+pub mod Ambiguities
+pub mod Compiled
+pub mod QueryRead
+pub mod Stops

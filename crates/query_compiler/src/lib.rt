@@ -1,0 +1,8 @@
+//! A query text: read from its source and compiled to a checked query, or why it is none.
+#![tactic(auto)]
+
+mod laws;
+mod query;
+
+pub use laws::one_query_per_text;
+pub use query::{QueryStop, compile};

@@ -1,0 +1,10 @@
+pub mod Answering
+pub mod Drills
+pub mod EndedPart
+pub mod Nodes
+pub mod OneAnswer
+pub mod Sessions
+pub mod Showing
+pub mod Takes
+pub mod Taking
+pub mod Turns

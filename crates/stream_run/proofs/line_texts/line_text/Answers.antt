@@ -1,0 +1,15 @@
+use Rattle.io_edge.specs.Lines.{text}
+use Rattle.stream_run.proofs.Sessions.{replies, reported}
+use Rattle.stream_run.proofs.line_texts.line_text.Goals as goal
+
+pub returns-clause-replies : goal.returns-clause-replies
+returns-clause-replies g c =
+    let f = g.F.Follower in
+    let line = text c.args.line.now in
+    reported f.follows c.reply_text.result _ line c.args.session.now c.line.new.self
+    c.reply_text.ensures
+    (replies f.follows f.query line c.in_ok-reply.reply _ c.args.session.now c.line.new.self
+    c.in_ok-reply.ensures.same c.in_ok-reply.ensures.begun c.in_ok-reply.ensures.reply
+    c.in_ok-reply.ensures.follows
+    (λ item found.
+    (c.in_ok-reply.ensures.checked, c.in_ok-reply.ensures.ready.query_is, c.answer.ensures.answer)))

@@ -1,0 +1,9 @@
+pub mod Drilled
+pub mod Drilling
+pub mod Meanings
+pub mod Output
+pub mod Outside
+pub mod Running
+pub mod Sessions
+pub mod Statuses
+pub mod Written
