@@ -1,12 +1,10 @@
 -- What rewriting keeps of a query that keeps the rules.
-use Rattle.std.proofs.Common.{◌≡◌, ◌≤◌, ◌↔◌, ◌∙◌, ℕ, List, refl, ap, sym, arith}
-use Rattle.value_ops.specs.declared.value.Value.{Value}
+use Rattle.std.proofs.Common.{◌≡◌, ◌≤◌, ◌↔◌, ◌∙◌, List, refl, ap, sym, arith}
 use Rattle.item_schema.specs.declared.column.Column.{Column}
 use Rattle.rate_expr.specs.Language.{In}
 use Rattle.rate_expr.specs.Rates.{size_of}
-use Rattle.rate_expr.specs.Words.{Word, IsWordOf}
+use Rattle.rate_expr.specs.Words.{Word}
 use Rattle.query_model.specs.Bounds.{inner_of, nodes_of, places_of, width_of}
-use Rattle.query_model.specs.Denotation.{Den}
 use Rattle.query_model.specs.Queries.{Qre}
 use Rattle.query_model.specs.QueryTypes.{type_of}
 use Rattle.query_model.specs.Rates.{rate_of}

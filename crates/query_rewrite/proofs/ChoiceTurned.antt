@@ -1,14 +1,8 @@
 -- Alternatives are grouped from the right.
-use Rattle.std.proofs.Common.{◌≡◌, ◌≤◌, ◌↔◌, ◌∙◌, ◌+◌, ◌++◌, ◌⊎◌, ℕ, List, refl, sym, arith, inl}
+use Rattle.std.proofs.Common.{◌∙◌, ◌⊎◌, List, refl, sym, arith, inl}
 use Rattle.std.proofs.Common.{inr, append_assoc}
-use Rattle.value_ops.specs.declared.value.Value.{Value}
 use Rattle.item_schema.specs.declared.column.Column.{Column}
-use Rattle.rate_expr.specs.Language.{In}
-use Rattle.rate_expr.specs.Words.{Word, IsWordOf}
-use Rattle.query_model.specs.Denotation.{Den}
 use Rattle.query_model.specs.Queries.{Qre, choice}
-use Rattle.query_model.specs.QueryTypes.{type_of}
-use Rattle.query_model.specs.Rates.{rate_of}
 use Rattle.query_model.specs.Rules.{Standing, IsClear}
 use Rattle.query_model.specs.Sizes.{predicates_of}
 use Rattle.query_rewrite.proofs.Alike.{IsAlike}

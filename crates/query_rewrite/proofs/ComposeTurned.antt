@@ -1,21 +1,19 @@
 -- Compositions are grouped from the left. Each value of the middle query but the one on no values
 -- comes after a value of the first one, so on a word on which the first one and the middle one have
 -- values; and where the middle one has none on no values, no other is read.
-use Rattle.std.proofs.Common.{◌≡◌, ◌≤◌, ◌↔◌, ◌∙◌, ◌+◌, ◌++◌, ◌⊎◌, ℕ, List, [], ◌∷◌, refl, sym}
+use Rattle.std.proofs.Common.{◌≡◌, ◌≤◌, ◌∙◌, ◌+◌, ◌++◌, ℕ, List, [], ◌∷◌, refl, sym}
 use Rattle.std.proofs.Common.{subst}
 use Rattle.std.proofs.Common.{ap, arith, inl, inr, append-nil, append_assoc}
 use Rattle.value_ops.specs.declared.field.Field.{Field}
 use Rattle.value_ops.specs.declared.value.Value.{Value}
 use Rattle.item_schema.specs.declared.column.Column.{Column}
-use Rattle.item_schema.specs.Items.{fields_of_value, IsItemOf}
-use Rattle.rate_expr.specs.Language.{In}
+use Rattle.item_schema.specs.Items.{fields_of_value}
 use Rattle.rate_expr.specs.Words.{Word, IsWordOf}
 use Rattle.rate_expr.proofs.Wording.{word_more}
 use Rattle.query_model.specs.Bounds.{inner_of, width_of}
 use Rattle.query_model.specs.Denotation.{Den, Emits, Outputs}
 use Rattle.query_model.specs.Queries.{Qre, compose}
 use Rattle.query_model.specs.QueryTypes.{derived_columns, type_of}
-use Rattle.query_model.specs.Rates.{rate_of}
 use Rattle.query_model.specs.Rules.{Standing, bound, free, IsClear, IsFedWell}
 use Rattle.query_model.proofs.Decided.{value_or_none}
 use Rattle.query_model.proofs.Defined.{outputs_some}

@@ -1,5 +1,5 @@
 -- Where operands are rewritten, a composition stays alike.
-use Rattle.std.proofs.Common.{◌≡◌, ◌≤◌, ◌↔◌, ◌∙◌, ◌+◌, ◌*◌, ℕ, List, [], ◌∷◌, refl, ap, sym, subst}
+use Rattle.std.proofs.Common.{◌≤◌, ◌↔◌, ◌∙◌, List, [], ◌∷◌, ap, sym, subst}
 use Rattle.std.proofs.Common.{arith}
 use Rattle.language_base.specs.Limits.{max_cells}
 use Rattle.value_ops.specs.declared.value.Value.{Value}

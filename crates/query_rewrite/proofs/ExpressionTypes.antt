@@ -1,5 +1,5 @@
 -- A well-typed expression has one type, and a number expression gives a scalar.
-use Rattle.std.proofs.Common.{◌≡◌, ◌∙◌, List, [], Option, None, Some, refl, ap, sym, subst}
+use Rattle.std.proofs.Common.{◌≡◌, ◌∙◌, [], None, refl, ap, sym}
 use Rattle.std.specs.Option.{option_map}
 use Rattle.language_base.specs.declared.binary.BinaryOp.{BinaryOp}
 use Rattle.language_base.specs.declared.unary.UnaryOp.{UnaryOp}
@@ -10,9 +10,9 @@ use Rattle.value_ops.specs.declared.scalar.Scalar.TheVariants.{Number}
 use Rattle.value_ops.specs.declared.value.Value.TheVariants as value
 use Rattle.value_ops.specs.declared.value.ValueType.{ValueType}
 use Rattle.value_ops.specs.declared.value.ValueType.TheVariants as type
-use Rattle.expressions.specs.Evaluation.{Inputs, given, scalar_in, scalar_of, value_named, value_of}
-use Rattle.expressions.specs.Expressions.{Expression, literal, read, unary, binary, choice, sum}
-use Rattle.expressions.specs.Expressions.{count, most, least, entry, rec, part}
+use Rattle.expressions.specs.Evaluation.{Inputs, given, scalar_in, scalar_of, value_of}
+use Rattle.expressions.specs.Expressions.{Expression, literal, read, unary, binary}
+use Rattle.expressions.specs.Expressions.{rec}
 use Rattle.value_ops.specs.Operators.{binary_of, unary_of}
 use Rattle.value_ops.specs.Types.{IsScalar}
 use Rattle.expressions.specs.Typing.{Types, AreValues, HasType, IsNumber, types_of}

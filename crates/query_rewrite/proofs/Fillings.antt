@@ -1,6 +1,6 @@
 -- An expression with another for its left value gives, on a value, what it gives on what the other
 -- one gives on it.
-use Rattle.std.proofs.Common.{◌≡◌, ◌∙◌, ◌+◌, ℕ, pos, Bool, true, false, List, [], length, Option}
+use Rattle.std.proofs.Common.{◌≡◌, ◌∙◌, ◌+◌, pos, false, List, [], length, Option}
 use Rattle.std.proofs.Common.{None, Some, refl, ap, sym, subst}
 use Rattle.std.specs.Option.{option_and_then, option_map}
 use Rattle.std.proofs.lemmas.Bool.{or_parts}

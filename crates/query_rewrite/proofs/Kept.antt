@@ -7,7 +7,6 @@ use Rattle.query_model.specs.Bounds.{slots_of}
 use Rattle.query_model.specs.Checked.{CheckedQuery, IsChecked}
 use Rattle.query_model.specs.Queries.{Qre, plain_of}
 use Rattle.query_model.specs.Rules.{free}
-use Rattle.query_model.specs.Sizes.{IsSmall, predicates_of}
 use Rattle.query_model.specs.declared.query.Query.{Query}
 use Rattle.query_rewrite.specs.Levels.{HasFewLevels}
 use Rattle.query_rewrite.specs.Meanings.{MeanTheSame}

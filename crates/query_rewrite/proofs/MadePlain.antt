@@ -8,7 +8,6 @@ use Rattle.query_model.specs.Queries.{collect}
 use Rattle.query_rewrite.specs.Filling.{filled}
 use Rattle.query_rewrite.specs.Plainness.{IsPlain, IsRewritable}
 use Rattle.query_rewrite.specs.Reducing.{reduced, IsReduced}
-use Rattle.query_rewrite.specs.Rewriting.{Merge, Turn}
 use Rattle.query_rewrite.specs.Steps.{applied, chosen, fed, is_left_value, merge, merged}
 use Rattle.query_rewrite.specs.Steps.{rewritten, turn}
 use Rattle.query_rewrite.proofs.ReducedParts.{reduced_is}

@@ -1,5 +1,5 @@
 -- Where two queries have the same values, so do folds, outputs and tables that are made of them.
-use Rattle.std.proofs.Common.{◌≡◌, ◌↔◌, ℕ, ◌++◌, List, [], ◌∷◌, inl, inr}
+use Rattle.std.proofs.Common.{◌↔◌, ℕ, ◌++◌, List, [], ◌∷◌, inl, inr}
 use Rattle.std.specs.List.{AllByRecursion}
 use Rattle.value_ops.specs.declared.scalar.Scalar.{Scalar}
 use Rattle.value_ops.specs.declared.value.Value.{Value}

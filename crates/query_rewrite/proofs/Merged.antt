@@ -1,5 +1,5 @@
 -- Two expressions, one applied after the other, are made one.
-use Rattle.std.proofs.Common.{◌≡◌, ◌≤◌, ◌↔◌, ◌∙◌, ◌+◌, ◌⊎◌, ℕ, List, [], Some, refl, ap, sym, subst}
+use Rattle.std.proofs.Common.{◌≡◌, ◌∙◌, ◌⊎◌, List, Some, refl, ap, sym, subst}
 use Rattle.std.proofs.Common.{arith, inl, inr}
 use Rattle.expressions.specs.declared.expr.Var.TheVariants.{Left}
 use Rattle.value_ops.specs.declared.value.Value.{Value}
@@ -11,8 +11,8 @@ use Rattle.item_schema.specs.declared.column.Column.{Column}
 use Rattle.rate_expr.specs.Words.{Word, IsWordOf}
 use Rattle.query_model.specs.Denotation.{Den, on_one}
 use Rattle.query_model.specs.Queries.{Qre, apply}
-use Rattle.query_model.specs.QueryTypes.{of_one, type_of, type_of_expression}
-use Rattle.query_model.specs.Rules.{Standing, bound, IsClear, IsTyped}
+use Rattle.query_model.specs.QueryTypes.{of_one, type_of}
+use Rattle.query_model.specs.Rules.{Standing, bound, IsClear}
 use Rattle.query_model.proofs.Expressed.{one_gives}
 use Rattle.query_model.proofs.Inside.{same_inside}
 use Rattle.query_model.proofs.Typed.{den_typed}

@@ -1,9 +1,8 @@
 -- Where an operand is rewritten, a query of one operand stays alike.
-use Rattle.std.proofs.Common.{◌≡◌, ◌≤◌, ◌↔◌, ◌∙◌, ◌+◌, ◌*◌, ℕ, ℤ, List, refl, ap, sym, subst, arith}
+use Rattle.std.proofs.Common.{◌≡◌, ◌↔◌, ◌∙◌, ◌+◌, ℕ, ℤ, List, refl, ap, subst, arith}
 use Rattle.std.proofs.Common.{[], ◌∷◌, ◌++◌}
 use Rattle.std.specs.List.{AllByRecursion}
 use Rattle.value_ops.specs.declared.scalar.Scalar.TheVariants.{Number}
-use Rattle.value_ops.specs.declared.value.Value.{Value}
 use Rattle.value_ops.specs.declared.value.Value.TheVariants as value
 use Rattle.expressions.specs.Expressions.{Expression}
 use Rattle.item_schema.specs.declared.column.Column.{Column}
@@ -15,10 +14,9 @@ use Rattle.rate_expr.specs.Words.{Word, IsWordOf, join}
 use Rattle.query_model.specs.Bounds.{inner_of, width_of}
 use Rattle.query_model.specs.Denotation.{Den, keys_after, projection}
 use Rattle.query_model.specs.Queries.{Qre, iter, apply, collect}
-use Rattle.query_model.specs.QueryTypes.{of_one, of_two, type_of, type_of_expression}
+use Rattle.query_model.specs.QueryTypes.{of_one, type_of_expression}
 use Rattle.query_model.specs.Rates.{rate_of}
 use Rattle.query_model.specs.Rules.{Standing, bound, IsClear}
-use Rattle.query_model.specs.Sizes.{predicates_of}
 use Rattle.query_model.proofs.Keys.{kept_word}
 use Rattle.query_model.proofs.Typed.{on_keys}
 use Rattle.query_rewrite.proofs.Alike.{IsAlike, width_same}

@@ -1,6 +1,6 @@
 -- A query with its expression reduced is alike.
-use Rattle.std.proofs.Common.{◌≡◌, ◌≤◌, ◌↔◌, ◌∙◌, ◌+◌, ◌++◌, ℕ, ℤ, List, [], ◌∷◌, None, Some, refl}
-use Rattle.std.proofs.Common.{ap, sym, subst, arith}
+use Rattle.std.proofs.Common.{◌≡◌, ◌∙◌, ◌+◌, ◌++◌, ℤ, List, [], ◌∷◌, None, Some, refl}
+use Rattle.std.proofs.Common.{sym, subst, arith}
 use Rattle.value_ops.specs.declared.field.Field.{Field}
 use Rattle.value_ops.specs.declared.scalar.Scalar.TheVariants as scalar
 use Rattle.value_ops.specs.declared.value.Value.{Value}
@@ -10,15 +10,14 @@ use Rattle.value_ops.specs.declared.value.ValueType.TheVariants.{Number}
 use Rattle.expressions.specs.Evaluation.{given, value_of}
 use Rattle.expressions.specs.Expressions.{Expression}
 use Rattle.value_ops.specs.Types.{IsValueOf}
-use Rattle.expressions.specs.Typing.{HasType, types_of}
+use Rattle.expressions.specs.Typing.{HasType}
 use Rattle.item_schema.specs.declared.column.Column.{Column}
 use Rattle.predicates.specs.Predicates.{Predicate}
 use Rattle.rate_expr.specs.Words.{Word, IsWordOf, join}
 use Rattle.rate_expr.proofs.Wording.{word_parts}
 use Rattle.query_model.specs.Denotation.{Den, Folds, on_both, on_one}
 use Rattle.query_model.specs.Queries.{Qre, atom, split, iter, combine, apply}
-use Rattle.query_model.specs.QueryTypes.{of_columns, of_one, of_two, type_of, type_of_expression}
-use Rattle.query_model.specs.Rates.{rate_of}
+use Rattle.query_model.specs.QueryTypes.{of_columns, of_one, of_two, type_of}
 use Rattle.query_model.specs.Rules.{Standing, bound, IsClear, IsTyped}
 use Rattle.query_model.proofs.Expressed.{two_ranges}
 use Rattle.query_model.proofs.InRates.{OnValues}
@@ -28,7 +27,7 @@ use Rattle.query_rewrite.specs.Reducing.{reduced}
 use Rattle.query_rewrite.proofs.Alike.{IsAlike}
 use Rattle.query_rewrite.proofs.ExpressionTypes.{typed_type}
 use Rattle.query_rewrite.proofs.ReducedParts.{levels_reduced}
-use Rattle.query_rewrite.proofs.Reductions.{KeepsType, number_reduced, typed_reduced, value_reduced}
+use Rattle.query_rewrite.proofs.Reductions.{number_reduced, typed_reduced, value_reduced}
 
 -- What the reduced expression gives.
 
@@ -218,7 +217,7 @@ module _ (columns : List Column) (D : Word → Value → Type 0) (ty : ValueType
         den,
         on_values Number ty so_far last e begins last_is is_typed ∙ gives,
         fold_there next pieces v
-        (two_ranges Number ty Number e so_far last next begins last_is typed
+            (two_ranges Number ty Number e so_far last next begins last_is typed
             gives) parts.1 folds,
       )
 

@@ -1,5 +1,5 @@
 -- What is reduced is so at each part, and has no more levels.
-use Rattle.std.proofs.Common.{◌≡◌, ◌+◌, ◌≤◌, ℤ, ℕ, Bool, true, false, max, refl, arith}
+use Rattle.std.proofs.Common.{◌≡◌, ◌+◌, ◌≤◌, Bool, true, false, max, refl, arith}
 use Rattle.std.specs.Prelude.{if◌then◌else◌}
 use Rattle.language_base.specs.Comparisons.{compares}
 use Rattle.language_base.specs.declared.binary.BinaryOp.{BinaryOp}

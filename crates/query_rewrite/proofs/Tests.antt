@@ -1,7 +1,7 @@
 -- What the tests of the code say of queries and of expressions.
-use Rattle.std.proofs.Common.{◌≡◌, ◌≤◌, ◌<◌, ◌+◌, ◌*◌, ◌∙◌, ℕ, zero, Bool, true, false, List, []}
+use Rattle.std.proofs.Common.{◌≡◌, ◌≤◌, ◌<◌, ◌+◌, ◌*◌, ◌∙◌, ℕ, zero, Bool, true, false, []}
 use Rattle.std.proofs.Common.{◌∷◌, ◌++◌, refl, sym, ap, subst, ◌⊎◌, inl, inr, arith}
-use Rattle.std.specs.Prelude.{not, ◌&&◌, ◌||◌, nat_le}
+use Rattle.std.specs.Prelude.{not, ◌&&◌, ◌||◌}
 use Rattle.std.proofs.Math.Nat.{add-mul, le_of_mul-le-mul_left, mul-add, one-mul}
 use Rattle.std.proofs.lemmas.Bool.{and_parts, both_ways, or_parts, le-leb, leb-true, not-true}
 use Rattle.std.proofs.lemmas.Bool.{false_from_ne_true, not_from_false}
@@ -14,7 +14,7 @@ use Rattle.expressions.specs.Expressions.{more}
 use Rattle.rate_expr.specs.Language.{In}
 use Rattle.rate_expr.specs.Rates as rate
 use Rattle.rate_expr.specs.Rates.{Regex}
-use Rattle.rate_expr.specs.Words.{Word, join}
+use Rattle.rate_expr.specs.Words.{Word}
 use Rattle.query_model.specs.Bounds.{inner_of, places_of, slots_of, width_of}
 use Rattle.query_model.specs.Queries.{Qre}
 use Rattle.query_model.specs.Rates.{rate_of}

@@ -1,18 +1,13 @@
 -- Where operands are rewritten, a query of two operands on one stream stays alike.
-use Rattle.std.proofs.Common.{◌≡◌, ◌≤◌, ◌↔◌, ◌∙◌, ◌+◌, ◌*◌, ◌⊎◌, ℕ, List, refl, ap, sym, arith}
+use Rattle.std.proofs.Common.{◌≡◌, ◌∙◌, ◌+◌, ◌⊎◌, List, sym, arith}
 use Rattle.std.proofs.Common.{◌++◌, inl, inr}
-use Rattle.value_ops.specs.declared.value.Value.{Value}
 use Rattle.expressions.specs.Expressions.{Expression}
 use Rattle.item_schema.specs.declared.column.Column.{Column}
-use Rattle.predicates.specs.Predicates.{Predicate}
-use Rattle.rate_expr.specs.Language.{In}
-use Rattle.rate_expr.specs.Words.{Word, IsWordOf, join}
+use Rattle.rate_expr.specs.Words.{IsWordOf}
 use Rattle.rate_expr.proofs.Wording.{word_parts}
 use Rattle.query_model.specs.Bounds.{inner_of, places_of, width_of}
-use Rattle.query_model.specs.Denotation.{Den}
 use Rattle.query_model.specs.Queries.{Qre, choice, split, combine}
-use Rattle.query_model.specs.QueryTypes.{of_two, type_of, type_of_expression}
-use Rattle.query_model.specs.Rates.{rate_of}
+use Rattle.query_model.specs.QueryTypes.{of_two, type_of_expression}
 use Rattle.query_model.specs.Rules.{Standing, bound, IsClear}
 use Rattle.query_model.specs.Sizes.{predicates_of}
 use Rattle.query_rewrite.proofs.Alike.{IsAlike, width_same}

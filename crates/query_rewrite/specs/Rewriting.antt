@@ -6,7 +6,7 @@ use Rattle.predicates.specs.Predicates.{Predicate}
 use Rattle.rate_expr.specs.Language.{In}
 use Rattle.rate_expr.specs.Rates.{Regex}
 use Rattle.query_model.specs.Bounds.{slots_of}
-use Rattle.query_model.specs.Queries.{Qre, atom, eps, choice, split, iter, combine, apply, compose}
+use Rattle.query_model.specs.Queries.{Qre, atom, choice, split, iter, combine, apply, compose}
 use Rattle.query_model.specs.Queries.{collect}
 use Rattle.query_model.specs.Rates.{rate_of}
 use Rattle.query_rewrite.specs.Filling.{filled, names_left, reads_of}

@@ -1,44 +1,25 @@
 -- Answers are read as they are spelled.
-use Rattle.std.proofs.Common.{◌≡◌, ◌<◌, ◌^◌, ℕ, zero, suc, ℤ, pos, negsuc, Bool, true, false}
-use Rattle.std.proofs.Common.{cond}
-use Rattle.std.proofs.Common.{eqb, leb, ◌&&◌, ◌||◌, List, [], ◌∷◌, ◌++◌, length, Option, None}
+use Rattle.std.proofs.Common.{◌≡◌, ℕ}
+use Rattle.std.proofs.Common.{List, ◌∷◌, ◌++◌, Option, None}
 use Rattle.std.proofs.Common.{Some}
-use Rattle.std.proofs.Common.{refl, sym, ap, subst, ◌∙◌, append_assoc, arith}
-use Rattle.std.specs.Int.{w32, w64, cast_signed, cast_unsigned}
-use Rattle.std.specs.Prelude.{FitsSigned, find, is_some}
-use Rattle.std.specs.List.{flat_map, list_any, AllByRecursion, IsDistinct}
-use Rattle.std.specs.Str.{bytes_eq}
-use Rattle.std.proofs.lemmas.Bool.{eqb-true, false≢true, leb-true, le-leb}
-use Rattle.std.proofs.lemmas.Cmp.{nat_list_eq_equiv}
-use Rattle.std.proofs.lemmas.Int.{of_z-to_z, to_z-of_z}
-use Rattle.std.proofs.lemmas.List.{append-nil, map_push}
-use Rattle.std.proofs.lemmas.Map.Keys.{IsDistinct-push}
-use Rattle.std.proofs.lemmas.Option.{none-some, same_Some}
-use borrow.Author.Gap.{read_sfits}
-use Rattle.few_parts.specs.Sizes.{IsRecordSize}
-use Rattle.value_ops.specs.Entries.{keys_of, value_at, HasDistinctKeys}
-use Rattle.value_ops.specs.Types.{IsScalar}
+use Rattle.std.proofs.Common.{refl, ap, subst, ◌∙◌}
+use Rattle.std.proofs.lemmas.Option.{same_Some}
 use Rattle.value_ops.specs.declared.scalar.Scalar.{Scalar}
 use Rattle.value_ops.specs.declared.scalar.Scalar.TheVariants as scalar
 use Rattle.value_ops.specs.declared.value.Value.{Value}
 use Rattle.value_ops.specs.declared.value.Value.TheVariants as value
 use Rattle.runner_snapshot.specs.declared.tags.ValueTag.{ValueTag}
 use Rattle.runner_snapshot.specs.declared.tags.ValueTag.TheVariants as tag
-use Rattle.runner_snapshot.specs.Bytes.{in_eight, in_four, scalar_bytes, text_bytes, entry_bytes}
-use Rattle.runner_snapshot.specs.Bytes.{table_bytes, parts_bytes, value_bytes, answer_bytes}
-use Rattle.runner_snapshot.specs.Ranges.{AreCounted, IsAnswer, IsCount, IsPlace, IsShort}
-use Rattle.runner_snapshot.specs.Ranges.{IsTableEntry}
-use Rattle.runner_snapshot.specs.Ranges.{IsValue}
-use Rattle.runner_snapshot.specs.Reading.{Read, ◌>>=◌, answer_at, answer_of, entries_at}
-use Rattle.runner_snapshot.specs.Reading.{made_at, more_entries_at, number_at, pair_at, parts_at}
-use Rattle.runner_snapshot.specs.Reading.{repeat_at, scalar_at, scalar_of, signed_at, text_at}
+use Rattle.runner_snapshot.specs.Bytes.{value_bytes, answer_bytes}
+use Rattle.runner_snapshot.specs.Ranges.{IsAnswer}
+use Rattle.runner_snapshot.specs.Reading.{Read, ◌>>=◌, answer_at, answer_of}
+use Rattle.runner_snapshot.specs.Reading.{made_at}
+use Rattle.runner_snapshot.specs.Reading.{scalar_of}
 use Rattle.runner_snapshot.specs.Reading.{value_of, value_read_at}
-use Rattle.runner_snapshot.specs.Tags.{value_byte, value_tag, value_tags}
-use Rattle.runner_snapshot.proofs.Readers.{IsBytes, IsBytes-rest, Takes, Takes-then, bind_some}
+use Rattle.runner_snapshot.specs.Tags.{value_byte, value_tag}
+use Rattle.runner_snapshot.proofs.Readers.{IsBytes, Takes, bind_some}
 use Rattle.runner_snapshot.proofs.Readers.{Reads}
-use Rattle.runner_snapshot.proofs.Readers.{both, made, repeat_takes, repeat_again, tagged}
-use Rattle.runner_snapshot.proofs.Readers.{arm_takes, arm_again, alone_takes, tagged_takes}
-use Rattle.runner_snapshot.proofs.ReadNumbers.{number32, number64, texts}
+use Rattle.runner_snapshot.proofs.Readers.{alone_takes, tagged_takes}
 use Rattle.runner_snapshot.proofs.ReadValues.{known_value, value_after, value_again}
 
 abbrev SpelledAnswer : List ℕ → Option Value → List ℕ → Type 0

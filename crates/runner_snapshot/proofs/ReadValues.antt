@@ -25,11 +25,11 @@ use Rattle.value_ops.specs.declared.value.Value.TheVariants as value
 use Rattle.runner_snapshot.specs.declared.tags.ValueTag.{ValueTag}
 use Rattle.runner_snapshot.specs.declared.tags.ValueTag.TheVariants as tag
 use Rattle.runner_snapshot.specs.Bytes.{in_eight, in_four, scalar_bytes, text_bytes, entry_bytes}
-use Rattle.runner_snapshot.specs.Bytes.{table_bytes, parts_bytes, value_bytes, answer_bytes}
-use Rattle.runner_snapshot.specs.Ranges.{AreCounted, IsAnswer, IsCount, IsPlace, IsShort}
+use Rattle.runner_snapshot.specs.Bytes.{table_bytes, parts_bytes, value_bytes}
+use Rattle.runner_snapshot.specs.Ranges.{AreCounted, IsCount, IsPlace, IsShort}
 use Rattle.runner_snapshot.specs.Ranges.{IsTableEntry}
 use Rattle.runner_snapshot.specs.Ranges.{IsValue}
-use Rattle.runner_snapshot.specs.Reading.{Read, ◌>>=◌, answer_at, answer_of, entries_at}
+use Rattle.runner_snapshot.specs.Reading.{Read, ◌>>=◌, entries_at}
 use Rattle.runner_snapshot.specs.Reading.{made_at, more_entries_at, number_at, pair_at, parts_at}
 use Rattle.runner_snapshot.specs.Reading.{repeat_at, scalar_at, scalar_of, signed_at, text_at}
 use Rattle.runner_snapshot.specs.Reading.{value_of, value_read_at}

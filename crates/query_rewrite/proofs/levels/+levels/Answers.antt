@@ -1,7 +1,6 @@
 -- A record has one level more than its parts.
-use Rattle.std.proofs.Common.{◌≡◌, ◌≤◌, ◌<◌, ◌+◌, ◌-◌, ◌^◌, ap, min, arith}
+use Rattle.std.proofs.Common.{◌-◌, ap, arith}
 use Rattle.query_rewrite.specs.Counting.{levels_with}
-use Rattle.expressions.specs.Expressions.{plain_of}
 use Rattle.expressions.proofs.RecordParts.{plain_record}
 use Rattle.query_rewrite.proofs.Measures.{weight_of}
 use Rattle.query_rewrite.proofs.levels.+levels.Goals as goal

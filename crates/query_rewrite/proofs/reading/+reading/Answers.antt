@@ -1,5 +1,5 @@
 -- A record reads the left value as its parts do.
-use Rattle.std.proofs.Common.{◌≡◌, ◌∙◌, ◌+◌, ◌<◌, ap, sym, arith}
+use Rattle.std.proofs.Common.{◌∙◌, ap, sym, arith}
 use Rattle.query_rewrite.specs.Counting.{reading_of}
 use Rattle.expressions.proofs.RecordParts.{plain_record}
 use Rattle.query_rewrite.proofs.Measures.{weight_of}

@@ -1,6 +1,6 @@
 -- The rewritten query is one that the query may be rewritten as, so it is alike.
 use Rattle.std.proofs.Common.{◌≡◌, ◌∙◌, ap, subst, sym, rules}
-use Rattle.query_model.specs.Checked.{CheckedQuery, IsChecked}
+use Rattle.query_model.specs.Checked.{IsChecked}
 use Rattle.query_model.specs.Queries.{plain_of}
 use Rattle.query_rewrite.specs.Steps.{rewritten}
 use Rattle.query_rewrite.proofs.Kept.{is_rewriting, still_checked}

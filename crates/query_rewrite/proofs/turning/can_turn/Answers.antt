@@ -1,5 +1,5 @@
 -- The counted numbers answer as the whole ones would.
-use Rattle.std.proofs.Common.{◌≡◌, ◌∙◌, ◌<◌, ◌^◌, arith}
+use Rattle.std.proofs.Common.{◌∙◌, arith}
 use Rattle.query_model.specs.Queries.{plain_of}
 use Rattle.query_rewrite.proofs.Rooms.{turn_counted}
 use Rattle.query_rewrite.proofs.turning.can_turn.Goals as goal
