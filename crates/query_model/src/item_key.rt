@@ -1,5 +1,5 @@
 //! The keys of items for the columns of a collect.
-ghost use Rattle.std.specs.Prelude.{◌≡◌, ◌↔◌, ◌++◌, ◌∷◌, [], List, IfOk, OnOk};
+ghost use Rattle.std.specs.Prelude.{◌≡◌, ◌↔◌, ◌++◌, ◌∷◌, [], List, IfOk, OnErr, OnOk};
 ghost use Rattle.joined_texts.specs.Joining.{after_bars, escaped, joined};
 ghost use Rattle.value_ops.specs.declared.field.Field.{Field};
 ghost use Rattle.query_model.specs.Keys.{AgreeIn, key_of, text_in, texts_in};
@@ -21,7 +21,8 @@ pub fn text_in<'i>(item: &'i Item<'_>, column: u32) -> &'i [u8]
 
 /// Joins the texts in the columns, in place of what was joined before.
 pub fn join_texts(text: &mut Joined, columns: &[u32], item: &Item) -> Result<(), AllocError>
-    ensures { OnOk result (text.new ≡ joined (texts_in columns.now item.now)) }
+    ensures ok { OnOk result (text.new ≡ joined (texts_in columns.now item.now)) }
+    ensures err { OnErr result (text.new ≡ []) }
 {
     let [first, others @ ..] = columns else {
         text.clear();
@@ -32,8 +33,9 @@ pub fn join_texts(text: &mut Joined, columns: &[u32], item: &Item) -> Result<(),
 }
 
 fn add_texts(text: &mut Joined, columns: &[u32], item: &Item) -> Result<(), AllocError>
-    ensures { OnOk result
+    ensures ok { OnOk result
         (text.new ≡ text.old ++ after_bars (texts_in columns.now item.now)) }
+    ensures err { OnErr result (text.new ≡ []) }
 {
     'columns: for &column in columns {
         text.add(text_in(item, column))?;
