@@ -22,6 +22,13 @@ pub fn slots(query: &Query) -> u32
     demand_of(query).slots()
 }
 
+/// How many numbers the values of the query have as records, and 1 where they are none.
+pub fn width(query: &Query) -> u32
+    ensures { result ≡ width_of (plain_of query.now.shape) }
+{
+    demand_of(query).width
+}
+
 fn demand_of(query: &Query) -> Demand
     ensures places { result.places ≡ min (places_of (plain_of query.now.shape)) (2 ^ 32 - 1) }
     ensures inner { result.inner ≡ min (inner_of (plain_of query.now.shape)) (2 ^ 32 - 1) }

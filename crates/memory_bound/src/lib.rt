@@ -4,4 +4,4 @@
 mod bounds;
 mod demand;
 
-pub use bounds::{places, slots};
+pub use bounds::{places, slots, width};

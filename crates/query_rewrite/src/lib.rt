@@ -16,4 +16,3 @@ mod turning;
 
 pub use laws::rewriting_keeps_what_a_query_means;
 pub use rewriting::rewrite;
-pub use turning::width_of;

@@ -1,14 +1,11 @@
 //! Whether compositions may be grouped from the left.
 ghost use Rattle.std.specs.Prelude.{◌≡◌, ◌<◌, ◌^◌};
-ghost use Rattle.query_model.specs.Bounds.{width_of, width_with};
 ghost use Rattle.query_model.specs.Queries.{plain_of};
 ghost use Rattle.query_model.specs.Rates.{rate_of};
 ghost use Rattle.query_rewrite.specs.Steps.{has_empty, turn};
 ghost use Rattle.rate_expr.specs.Plain as rates;
-ghost use Rattle.expressions.specs.Expressions as expr;
 
-use expressions::{Expr, Var};
-use memory_bound::{places, slots};
+use memory_bound::{places, slots, width};
 use query_model::{Query, Shape};
 use rate_expr::Rate;
 
@@ -21,7 +18,7 @@ pub(crate) fn can_turn(middle: &Query, last: &Query) -> bool
         return false;
     }
     let runners = u64::from(places(middle)).saturating_mul(u64::from(slots(last)) + 1);
-    u64::from(width_of(middle)) <= u64::from(width_of(last)).saturating_add(runners)
+    u64::from(width(middle)) <= u64::from(width(last)).saturating_add(runners)
 }
 
 /// Whether the empty word is in the rate of the query.
@@ -48,32 +45,5 @@ fn is_empty_in(rate: &Rate) -> bool
         Rate::One(_) => false,
         Rate::Seq(left, right) => is_empty_in(left) && is_empty_in(right),
         Rate::Alt(left, right) => is_empty_in(left) || is_empty_in(right),
-    }
-}
-
-/// How many numbers the values of the query have as records, and 1 where they are none.
-pub fn width_of(query: &Query) -> u32
-    ensures { result ≡ width_of (plain_of query.now.shape) }
-{
-    match &query.shape {
-        Shape::Atom(_, value) => width_with(1, 1, value),
-        Shape::Eps(_) | Shape::Iter(..) | Shape::Collect(..) => 1,
-        Shape::Or(left, _) => width_of(left),
-        Shape::Split(left, right, value) | Shape::Combine(left, right, value) => {
-            width_with(width_of(left), width_of(right), value)
-        }
-        Shape::Apply(inner, value) => width_with(width_of(inner), 1, value),
-        Shape::Compose(_, right) => width_of(right),
-    }
-}
-
-fn width_with(left: u32, right: u32, value: &Expr) -> u32
-    ensures { result ≡ width_with left right (expr.plain_of value.now) }
-{
-    match value {
-        Expr::Read(Var::Left) => left,
-        Expr::Read(Var::Right) => right,
-        Expr::Rec(parts) => parts.as_slice().len() as u32,
-        _ => 1,
     }
 }
