@@ -17,12 +17,11 @@ test_first_build() {
     forget
     same 'first build' 'built
 status 0' "$(answer with_rt "$top/sqre" which)"
-    same 'first build: what rt was asked' 'lib low;run sqre;lib low;lib aside;run explain;' "$(asked)"
-    has 'first build: progress' 'proving low (0 of 2 are proved)' "$(cat "$room/errors")"
+    same 'first build: what rt was asked' 'ci low sqre;ci low aside explain;' "$(asked)"
+    has 'first build: progress' 'proving 2 crates (' "$(cat "$room/errors")"
     has 'first build: its end' 'proved and built in' "$(cat "$room/errors")"
-    holds 'first build: a library is there where the program is built' [ -e "$top/crates/low/out/rlib/stamp" ]
     holds 'first build: no lock is left' [ ! -e "$top/crates/sqre/out/lock" ]
-    holds 'first build: no lanes are left' [ ! -e "$HOME/.cache/sqre$top/lanes" ]
+    holds 'first build: no copy is left' [ ! -e "$HOME/.cache/sqre$top/build" ]
     forget
     same 'behind the first build' 'built
 status 0' "$(answer without_rt "$top/sqre" which)"
@@ -44,7 +43,7 @@ status 0' "$(answer without_rt "$top/sqre" which)"
     forget
     same 'code is newer' 'built
 status 0' "$(answer with_rt "$top/sqre" which)"
-    same 'code is newer: what rt was asked' 'lib low;run sqre;lib low;lib aside;run explain;' "$(asked)"
+    same 'code is newer: what rt was asked' 'ci low sqre;ci low aside explain;' "$(asked)"
     touch -d '2099-01-01' "$top/crates/low/src/lib.rt"
     forget
     same 'a time to come' 'built
@@ -109,7 +108,7 @@ status 0' "$(answer with_rt "$top/sqre" which)"
     wait "$one"
     same 'the first of two first calls' 'built
 status 0' "$(cat "$room/one")"
-    same 'two first calls: what rt was asked' 'lib low;run sqre;lib low;lib aside;run explain;' "$(asked)"
+    same 'two first calls: what rt was asked' 'ci low sqre;ci low aside explain;' "$(asked)"
     unset RT_TAKES
 }
 
@@ -121,7 +120,7 @@ test_end_of_build() {
     (PATH=$room/kit:$tools exec "$top/sqre" which) >"$room/one" 2>/dev/null &
     one=$!
     wait_for "$RT_LOG"
-    job=$(sed -n 's/^begin lib low //p' "$RT_LOG")
+    job=$(sed -n 's/^begin ci low sqre //p' "$RT_LOG")
     holds 'a build has begun' kill -0 "$job"
     kill -s TERM "$one"
     wait "$one" 2>/dev/null
