@@ -1,8 +1,14 @@
 pub mod Answering
+pub mod CutLines
 pub mod Drills
 pub mod EndedPart
+pub mod FewItems
+pub mod GoingOn
+pub mod LineItems
 pub mod Nodes
 pub mod OneAnswer
+pub mod PlainEnds
+pub mod Said
 pub mod Sessions
 pub mod Showing
 pub mod Takes

@@ -6,10 +6,8 @@ use Rattle.std.proofs.Math.Seq.{take-append_seam}
 use Rattle.std.specs.declared.alloc.AllocError.{AllocError}
 use Rattle.std.specs.List.{flat_map}
 use Rattle.io_edge.specs.Lines.{Shown, ended_by_lf, text}
-use Rattle.value_ops.specs.declared.field.Field.{Field}
 use Rattle.value_ops.specs.declared.value.Value.{Value}
 use Rattle.item_schema.specs.Layout.{Layout}
-use Rattle.line_reader.specs.declared.stop.Skip.{Skip}
 use Rattle.item_drill.specs.Lines.{bytes_of, header_of, names_of, row_of}
 use Rattle.rate_expr.specs.Words.{Word, IsWordOf}
 use Rattle.query_model.specs.Checked.{IsChecked, CheckedQuery}
@@ -17,13 +15,12 @@ use Rattle.query_model.specs.Following.{IsAnswer}
 use Rattle.query_model.specs.Monitors.{monitor_of}
 use Rattle.query_model.specs.Queries.{Qre, plain_of}
 use Rattle.query_model.specs.Rules.{free}
-use Rattle.stream_run.specs.Drilling.{Takes, drilled_lines}
+use Rattle.stream_run.specs.Drilling.{drilled_lines}
 use Rattle.stream_run.specs.Meanings.{IsMeaning, Meaning}
 use Rattle.stream_run.specs.Output.{body_of, item_in, items_of, read_of, value_after}
-use Rattle.stream_run.specs.Sessions.{FollowsOn, IsAfter, read_by}
+use Rattle.stream_run.specs.Sessions.{IsAfter, Takes, first_origin}
 use Rattle.stream_run.specs.declared.session.Session.{Session}
 use Rattle.stream_run.proofs.OneAnswer.{one_answer}
-use Rattle.stream_run.proofs.Sessions.{follows_more, is_begun-push, read_after, read_is}
 
 -- the bytes of one line, without its LF
 pub without_lf : (line shown : List ℕ) → line ≡ bytes_of (shown ∷ [])
@@ -39,28 +36,6 @@ without_lf line shown is = rw is (at (shown ++ codes "\n" ++ []) refl)
         let short : length bytes - 1 ≡ length shown = omega (arith, long) in
         (omega (arith, long), rw (short, ended) (take-append_seam shown (codes "\n")))
 
-module _ {F : Type 0} (follows : F → Word → Type 0) (query : F → Qre) where
-  -- a session that reads a line and follows on is after it
-  pub takes : (line : Shown) (old new : Session F) → new.checked ≡ old.checked → new.begun ≡ true
-      → FollowsOn follows old.checked.now.layout.columns (read_by old line) old.follower
-      new.follower → Takes follows line old new
-  takes line old new same begun follows_on on before holds_after =
-      let read = read_after on.layout before line in
-      let is : read_by old line ≡ read = read_is follows query on before line old new holds_after in
-      let here : new.checked.now ≡ on = ap (λ c. c.now) same ∙ holds_after.same in
-      let after = follows_more follows query on before line old new holds_after read refl
-      (subst
-      (λ (o : CheckedQuery). FollowsOn follows o.layout.columns read old.follower new.follower)
-      holds_after.same
-      (subst (λ (r : Option (Result (List Field) Skip)). FollowsOn follows
-      old.checked.now.layout.columns r old.follower new.follower) is follows_on)) in
-      record {
-        same = here;
-        is_word = after.0;
-        follows_items = after.1;
-        begun_is = begun ∙ sym (is_begun-push before line);
-      }
-
 -- what was taken of bytes was taken of the line that they are
 pub takes_line : {F : Type 0} (follows : F → Word → Type 0) (bytes shown : List ℕ)
     (old new : Session F) → bytes ≡ shown → Takes follows (text bytes) old new
@@ -68,8 +43,8 @@ pub takes_line : {F : Type 0} (follows : F → Word → Type 0) (bytes shown : L
 takes_line follows bytes shown old new same took =
     subst (λ (b : List ℕ). Takes follows (text b) old new) same took
 
-module _ {F : Type 0} (follows : F → Word → Type 0) (on : CheckedQuery) (session : Session F)
-    (seed : ℕ) where
+module _ {F : Type 0} (follows : F → Word → Type 0) (on : CheckedQuery) (first : F)
+    (session : Session F) (seed : ℕ) where
   -- whichever line is the header, no item comes of it
   no_item : (line : Shown) → on.layout.has_header ≡ true → items_of on.layout (line ∷ []) ≡ []
   no_item line is =
@@ -77,15 +52,17 @@ module _ {F : Type 0} (follows : F → Word → Type 0) (on : CheckedQuery) (ses
       (body_of h (line ∷ []))) is
 
   pub other_header : (line other : Shown) → on.layout.has_header ≡ true
-      → IsAfter follows on (line ∷ []) session → IsAfter follows on (other ∷ []) session
+      → IsAfter follows (first_origin on first) (line ∷ []) session
+      → IsAfter follows (first_origin on first) (other ∷ []) session
   other_header line other is holds_after =
       let same : items_of on.layout (line ∷ []) ≡ items_of on.layout (other ∷ []) =
       no_item line is ∙ sym (no_item other is) in
       record {
         same = holds_after.same;
         is_word = subst (IsWordOf on.layout.columns) same holds_after.is_word;
-        follows_items = subst (follows session.follower) same holds_after.follows_items;
-        begun_is = holds_after.begun_is;
+        carries = λ word followed. subst (λ (w : Word). follows session.follower (word ++ w)) same
+            (holds_after.carries word followed);
+        began_is = holds_after.began_is;
       }
 
   -- the lines of a drill begin with the header
@@ -106,14 +83,15 @@ pub header_taken : {F : Type 0} (follows : F → Word → Type 0) (on : CheckedQ
     → (result : Result (Unit {0}) AllocError)
     → OnOk result
     ((shown : List ℕ) → bytes ≡ bytes_of (shown ∷ []) → Takes follows (text shown) old new)
-    → OnOk result
-    (IsAfter follows on [] old → IsAfter follows on (drilled_lines on.layout 0 seed) new)
+    → OnOk result ((first : F) → IsAfter follows (first_origin on first) [] old
+    → IsAfter follows (first_origin on first) (drilled_lines on.layout 0 seed) new)
 header_taken follows on seed old new bytes layout has same are (Err error) took = tt
 header_taken follows on seed old new bytes layout has same are (Ok done) took =
-    λ holds_after. subst (λ (lines : List Shown). IsAfter follows on lines new)
-    (sym (begins_with_header follows on new seed has))
-    (other_header follows on new seed (text row) (ended_by_lf row) has
-    (took row line on [] holds_after))
+    λ first holds_after. subst (λ (lines : List Shown).
+    IsAfter follows (first_origin on first) lines new)
+    (sym (begins_with_header follows on first new seed has))
+    (other_header follows on first new seed (text row) (ended_by_lf row) has
+    (took row line (first_origin on first) [] holds_after))
   where
     row : List ℕ
     row = row_of (names_of on.layout.columns)
@@ -125,11 +103,12 @@ header_taken follows on seed old new bytes layout has same are (Ok done) took =
 
 -- there was none
 pub none_taken : {F : Type 0} (follows : F → Word → Type 0) (on : CheckedQuery) (seed : ℕ)
-    (session : Session F) → on.layout.has_header ≡ false → IsAfter follows on [] session
-    → IsAfter follows on (drilled_lines on.layout 0 seed) session
-none_taken follows on seed session none holds_after =
-    subst (λ (lines : List Shown). IsAfter follows on lines session)
-    (sym (begins_with_none follows on session seed none)) holds_after
+    (session : Session F) → on.layout.has_header ≡ false → (first : F)
+    → IsAfter follows (first_origin on first) [] session
+    → IsAfter follows (first_origin on first) (drilled_lines on.layout 0 seed) session
+none_taken follows on seed session none first holds_after =
+    subst (λ (lines : List Shown). IsAfter follows (first_origin on first) lines session)
+    (sym (begins_with_none follows on first session seed none)) holds_after
 
 -- the next line was taken
 pub next_taken : {F : Type 0} (follows : F → Word → Type 0) (old new : Session F)
@@ -142,13 +121,13 @@ next_taken follows old new bytes shown are (Err error) took = tt
 
 -- the answer after lines is the value after them
 pub answer_after : {F : Type 0} (follows : F → Word → Type 0) (query : F → Qre) (on : CheckedQuery)
-    (shown : List Shown) (session : Session F) (answer : Option Value) → IsChecked on
-    → IsAfter follows on shown session
+    (first : F) (shown : List Shown) (session : Session F) (answer : Option Value) → IsChecked on
+    → follows first [] → IsAfter follows (first_origin on first) shown session
     → query session.follower ≡ plain_of session.checked.now.main.shape
     → ((word : Word) → follows session.follower word
     → IsAnswer (query session.follower) word answer)
     → (meaning : Meaning) → IsMeaning (monitor_of on) meaning → answer ≡ value_after meaning shown
-answer_after follows query on shown session answer checked holds_after query_is
+answer_after follows query on first shown session answer checked none holds_after query_is
     answers meaning means =
     let items = items_of on.layout shown in
     let asked : query session.follower ≡ plain_of on.main.shape =
@@ -156,6 +135,7 @@ answer_after follows query on shown session answer checked holds_after query_is
     in
     one_answer free on.layout.columns (plain_of on.main.shape) items answer (meaning.value items)
     checked.clear holds_after.is_word
-    (subst (λ (q : Qre). IsAnswer q items answer) asked (answers items holds_after.follows_items))
+    (subst (λ (q : Qre). IsAnswer q items answer) asked
+    (answers items (holds_after.carries [] none)))
     (means.value items holds_after.is_word)
     ∙ ap (λ (l : Layout). meaning.value (items_of l shown)) (sym means.layout)

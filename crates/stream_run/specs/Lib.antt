@@ -1,8 +1,11 @@
 pub mod Drilled
 pub mod Drilling
+pub mod Endings
 pub mod Meanings
 pub mod Output
 pub mod Outside
+pub mod Replies
+pub mod Resumed
 pub mod Running
 pub mod Sessions
 pub mod Statuses

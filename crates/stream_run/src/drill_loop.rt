@@ -6,10 +6,10 @@ ghost use Rattle.item_drill.specs.Lines.{bytes_of, line_from};
 ghost use Rattle.query_model.specs.Monitors.{monitor_of};
 ghost use Rattle.query_model.specs.Queries.{plain_of};
 ghost use Rattle.stream_run.specs.Drilled.{drilled};
-ghost use Rattle.stream_run.specs.Drilling.{Takes, drilled_lines};
+ghost use Rattle.stream_run.specs.Drilling.{drilled_lines};
 ghost use Rattle.item_drill.specs.Drillable.{IsDrillable};
 ghost use Rattle.stream_run.specs.Meanings.{IsMeaning, Meaning};
-ghost use Rattle.stream_run.specs.Sessions.{IsAfter, IsReady};
+ghost use Rattle.stream_run.specs.Sessions.{IsAfter, IsReady, Takes, first_origin};
 
 use crate::session::Session;
 use item_drill::Drill;
@@ -54,7 +54,7 @@ fn begin<'c, F: Follower + Drop>(
     requires query { F.query follower ≡ plain_of checked.now.main.shape }
     requires columns { F.columns follower ≡ checked.now.layout.columns }
     requires layout { drill.now.layout ≡ checked.now.layout }
-    ensures after { IfOk result (IsAfter F.follows checked.now
+    ensures after { IfOk result (IsAfter F.follows (first_origin checked.now follower)
         (drilled_lines checked.now.layout 0 drill.now.state)) }
     ensures ready { IfOk result (IsReady F.query F.columns F.lost F.sound) }
     ensures position { IfOk result (λ session. F.position session.follower ≤ 1) }
@@ -74,9 +74,10 @@ fn take_header<F: Follower>(
     requires layout { drill.now.layout ≡ checked.now.layout }
     requires ready { IsReady F.query F.columns F.lost F.sound session.old }
     requires room { F.position session.old.follower < 2 ^ 63 }
-    ensures after { OnOk result (IsAfter F.follows checked.now [] session.old
-        → IsAfter F.follows checked.now (drilled_lines checked.now.layout 0 drill.now.state)
-        session.new) }
+    ensures after { OnOk result ((first : F)
+        → IsAfter F.follows (first_origin checked.now first) [] session.old
+        → IsAfter F.follows (first_origin checked.now first)
+        (drilled_lines checked.now.layout 0 drill.now.state) session.new) }
     ensures ready { OnOk result (IsReady F.query F.columns F.lost F.sound session.new) }
     ensures position { OnOk result
         (F.position session.new.follower ≤ F.position session.old.follower + 1) }

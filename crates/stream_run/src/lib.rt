@@ -2,6 +2,7 @@
 #![tactic(auto)]
 
 mod drill_loop;
+mod laws;
 mod line_texts;
 mod run_loop;
 mod session;
@@ -9,7 +10,10 @@ mod status;
 mod writer;
 
 pub use drill_loop::drill;
-pub use run_loop::run;
+pub use laws::{
+    items_take_two_bytes_each, output_goes_on_between_lines, what_goes_on_after_nothing_is_plain,
+};
+pub use run_loop::{run, run_on};
 pub use session::{Reply, Session};
 pub use status::Status;
 pub use writer::{end, report};

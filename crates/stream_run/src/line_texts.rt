@@ -19,12 +19,13 @@ pub fn line_text<'b, F: Follower>(
     buffer: &'b mut Vec<u8>,
 ) -> Result<&'b [u8], AllocError>
     requires ready { IsReady F.query F.columns F.lost F.sound session.old }
-    requires room { F.position session.old.follower < 2 ^ 63 }
+    requires room { F.position session.old.follower < 2 ^ 62 + 2 ^ 63 }
     ensures replies { IfOk result (λ reply.
         RepliesTo F.follows (text line.now) reply.now session.old session.new) }
     ensures ready { OnOk result (IsReady F.query F.columns F.lost F.sound session.new) }
     ensures position { OnOk result
         (F.position session.new.follower ≤ F.position session.old.follower + 1) }
+    ensures same { session.new.checked ≡ session.old.checked }
 {
     let reply = session.line(alloc, line)?;
     reply_text(reply, session.answer(), buffer)

@@ -36,7 +36,7 @@ pub enum Reply {
 pub struct Session<'q, F: Follower> {
     checked: &'q Checked,
     follower: F,
-    begun: bool,
+    began: bool,
 }
 
 impl<'q, F: Follower> Session<'q, F> {
@@ -45,12 +45,26 @@ impl<'q, F: Follower> Session<'q, F> {
         requires word { F.follows follower [] }
         requires query { F.query follower ≡ plain_of checked.now.main.shape }
         requires columns { F.columns follower ≡ checked.now.layout.columns }
-        ensures { result ≡ record { checked = checked.entry; follower = follower; begun = false } }
+        ensures { result ≡ record { checked = checked.entry; follower = follower; began = false } }
+    {
+        Session::resume(checked, follower, false)
+    }
+
+    /// A session that goes on from what the follower follows, and after a line if `began`. It takes
+    /// no memory.
+    pub fn resume(checked: &'q Checked, follower: F, began: bool) -> Session<'q, F>
+        requires query { F.query follower ≡ plain_of checked.now.main.shape }
+        requires columns { F.columns follower ≡ checked.now.layout.columns }
+        requires found { (F.lost follower ≡ false) × F.sound follower }
+        requires room { F.position follower ≤ 2 ^ 62 }
+        ensures session { result
+            ≡ record { checked = checked.entry; follower = follower; began = began } }
+        ensures ready { IsReady F.query F.columns F.lost F.sound result }
     {
         Session {
             checked,
             follower,
-            begun: false,
+            began,
         }
     }
 
@@ -58,11 +72,12 @@ impl<'q, F: Follower> Session<'q, F> {
     /// is lost.
     pub fn line(&mut self, alloc: Global, line: &[u8]) -> Result<Reply, AllocError>
         requires ready { IsReady F.query F.columns F.lost F.sound self.old }
-        requires room { F.position self.old.follower < 2 ^ 63 }
+        // A run goes on from at most 2^62 items, and takes fewer than 2^63.
+        requires room { F.position self.old.follower < 2 ^ 62 + 2 ^ 63 }
         ensures reply { IfOk result (IsReplyTo (read_by self.old (text line.now))) }
         ensures follows { OnOk result (FollowsOn F.follows self.old.checked.now.layout.columns
             (read_by self.old (text line.now)) self.old.follower self.new.follower) }
-        ensures begun { OnOk result (self.new.begun ≡ true) }
+        ensures began { OnOk result (self.new.began ≡ true) }
         ensures err { OnErr result ((self.new ≡ self.old) ⊎ (F.lost self.new.follower ≡ true)) }
 
         ensures same { self.new.checked ≡ self.old.checked }
@@ -72,17 +87,17 @@ impl<'q, F: Follower> Session<'q, F> {
             (F.position self.new.follower ≤ F.position self.old.follower + 1) }
     {
         if self.awaits_header() || line.is_empty() {
-            self.begun = true;
+            self.began = true;
             return Ok(Reply::Silent);
         }
         match read_item(alloc, self.checked.schema(), line) {
             Ok(item) => {
-                self.begun = true;
+                self.began = true;
                 self.follower.step(alloc, &item)?;
                 Ok(Reply::Answered)
             }
             Err(ItemStop::Skip(skip)) => {
-                self.begun = true;
+                self.began = true;
                 Ok(Reply::Skipped(skip))
             }
             Err(ItemStop::Memory) => Err(AllocError),
@@ -92,10 +107,10 @@ impl<'q, F: Follower> Session<'q, F> {
     /// Takes a line that is too long.
     pub fn long_line(&mut self) -> Reply
         ensures reply { IsReplyTo (read_by self.old long) result }
-        ensures follows { self.new ≡ record self.old { begun = true } }
+        ensures follows { self.new ≡ record self.old { began = true } }
     {
         let is_header = self.awaits_header();
-        self.begun = true;
+        self.began = true;
         if is_header {
             return Reply::Silent;
         }
@@ -117,10 +132,17 @@ impl<'q, F: Follower> Session<'q, F> {
         &self.follower
     }
 
+    /// Whether a line has come.
+    pub fn began(&self) -> bool
+        ensures { result ≡ self.now.began }
+    {
+        self.began
+    }
+
     fn awaits_header(&self) -> bool
         ensures header { result ≡ awaits_header self.now }
         ensures checked { IsChecked self.now.checked.now }
     {
-        self.checked.schema().has_header() && !self.begun
+        self.checked.schema().has_header() && !self.began
     }
 }

@@ -11,10 +11,10 @@ use Rattle.item_drill.specs.Lines.{line_from, lines_from}
 use Rattle.query_model.specs.Monitors.{monitor_of}
 use Rattle.report_writer.specs.Texts.{drill_text}
 use Rattle.stream_run.specs.Drilled.{drilled, values_of}
-use Rattle.stream_run.specs.Drilling.{Takes, drilled_lines}
+use Rattle.stream_run.specs.Drilling.{drilled_lines}
 use Rattle.stream_run.specs.Meanings.{IsMeaning, Meaning}
 use Rattle.stream_run.specs.Output.{value_after}
-use Rattle.stream_run.specs.Sessions.{IsAfter}
+use Rattle.stream_run.specs.Sessions.{IsAfter, Origin, Takes, first_origin}
 use Rattle.stream_run.proofs.Drills.{IsTally, drilled_lines-next, continues-next, tally_next}
 use Rattle.stream_run.proofs.Drills.{reported_of_bytes}
 use Rattle.stream_run.proofs.Taking.{answer_after}
@@ -45,14 +45,15 @@ items-preserved g c =
     let count = c.items.counter in
     let state = c.items.drill.state in
     let kept = c.items.invariant in
+    let origin : Origin _ = first_origin on c.args.follower in
     let next = drilled_lines-next layout count state seed kept.continues in
     let took = subst (λ (l : Layout). Takes f.follows (text (line_from l.columns state))
     c.items.session c.take_next.new.session)
     kept.same c.in_ok-take_next.ensures.takes
     in
     let after =
-    subst (λ (lines : List Shown). IsAfter f.follows on lines c.take_next.new.session) (sym next)
-    (took on (drilled_lines layout count seed) kept.after)
+    subst (λ (lines : List Shown). IsAfter f.follows origin lines c.take_next.new.session)
+    (sym next) (took origin (drilled_lines layout count seed) kept.after)
     in
     let later : c.take_next.new.drill.state ≡ state_after (length layout.columns) state =
     ap (λ d. d.state) c.in_ok-take_next.ensures.drill
@@ -73,8 +74,9 @@ items-preserved g c =
           (λ n. ap (λ (s : ℕ). line_from layout.columns state ∷ lines_from layout.columns n s)
           (sym later));
       tally = λ meaning means.
-          let is = answer_after f.follows f.query on (drilled_lines layout (count + 1) seed)
-          c.take_next.new.session answer c.schema.ensures.checked after
+          let is = answer_after f.follows f.query on c.args.follower
+          (drilled_lines layout (count + 1) seed) c.take_next.new.session answer
+          c.schema.ensures.checked c.requires.word after
           c.in_ok-take_next.ensures.ready.query_is c.answer.ensures.answer meaning means
           in
           let tally = tally_next meaning layout means.layout c.requires.drillable.some
@@ -108,8 +110,8 @@ returns g c =
     → line ≡ drilled meaning c.args.count seed)
     c.drill_text.ensures
     (λ line reported meaning means.
-    let is = answer_after f.follows f.query on (drilled_lines layout count seed) c.items.session
-    answer c.schema.ensures.checked kept.after kept.ready.query_is
+    let is = answer_after f.follows f.query on c.args.follower (drilled_lines layout count seed)
+    c.items.session answer c.schema.ensures.checked c.requires.word kept.after kept.ready.query_is
     c.answer-2.ensures.answer meaning means
     in
     reported_of_bytes meaning layout count seed c.items.defined answer means.layout

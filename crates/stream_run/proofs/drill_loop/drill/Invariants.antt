@@ -5,7 +5,7 @@ use Rattle.stream_run.specs.Drilled.{values_of}
 use Rattle.stream_run.specs.Drilling.{drilled_lines}
 use Rattle.stream_run.specs.Meanings.{IsMeaning, Meaning}
 use Rattle.stream_run.specs.Output.{value_after}
-use Rattle.stream_run.specs.Sessions.{IsAfter, IsReady}
+use Rattle.stream_run.specs.Sessions.{IsAfter, IsReady, first_origin}
 use Rattle.stream_run.proofs.Drills.{IsTally}
 use Rattle.stream_run.proofs.drill_loop.drill.Given as goal
 
@@ -15,7 +15,8 @@ invariant-items g l =
     let f = g.F.Follower in
     let layout = l.fn.checked.layout in
     record {
-      after : IsAfter f.follows l.fn.checked (drilled_lines layout l.counter l.fn.seed) l.session;
+      after : IsAfter f.follows (first_origin l.fn.checked l.fn.follower)
+          (drilled_lines layout l.counter l.fn.seed) l.session;
       ready : IsReady f.query f.columns f.lost f.sound l.session;
       position : f.position l.session.follower ≤ l.counter + 1;
       same : l.drill.layout ≡ layout;

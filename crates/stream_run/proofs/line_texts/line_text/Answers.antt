@@ -9,7 +9,7 @@ returns-clause-replies g c =
     reported f.follows c.reply_text.result _ line c.args.session.now c.line.new.self
     c.reply_text.ensures
     (replies f.follows f.query line c.in_ok-reply.reply _ c.args.session.now c.line.new.self
-    c.in_ok-reply.ensures.same c.in_ok-reply.ensures.begun c.in_ok-reply.ensures.reply
+    c.in_ok-reply.ensures.same c.in_ok-reply.ensures.began c.in_ok-reply.ensures.reply
     c.in_ok-reply.ensures.follows
     (λ item found.
     (c.in_ok-reply.ensures.checked, c.in_ok-reply.ensures.ready.query_is, c.answer.ensures.answer)))

@@ -1,7 +1,8 @@
 use Rattle.std.proofs.Common.{Ok, Err, ap, ◌∙◌, refl}
 use Rattle.stream_run.proofs.Takes.{TakesLine-whole, TakesLine-long}
-use Rattle.stream_run.proofs.Turns.{Replied-continues, Replied-stops, Ended-failed, Ended-at_limit}
-use Rattle.stream_run.proofs.Turns.{Ended-at_limit_held, Ended-done, Ended-done_held, Ended-or_held}
+use Rattle.stream_run.proofs.Turns.{Ended-at_limit, Ended-at_limit_held, Ended-done_held}
+use Rattle.stream_run.proofs.Turns.{Ended-failed, Replied-continues, Replied-not_done}
+use Rattle.stream_run.proofs.Turns.{Replied-stops, Stops-done, Stops-or_held, stops}
 use Rattle.stream_run.proofs.run_loop.turn.Goals as goal
 
 pub returns-in-Ok-Whole-clause-continues : goal.returns-in-Ok-Whole-clause-continues
@@ -18,6 +19,9 @@ returns-in-Ok-Whole-clause-stops g c =
     Replied-stops _ _ _ _ _ _ _ _ _ _ takes c.line_text.ensures.replies
     c.write_reply.ensures.replied
 
+pub returns-in-Ok-Whole-clause-done : goal.returns-in-Ok-Whole-clause-done
+returns-in-Ok-Whole-clause-done g c = Replied-not_done _ _ _ _ _ c.write_reply.ensures.replied
+
 pub returns-in-Ok-Long-clause-continues : goal.returns-in-Ok-Long-clause-continues
 returns-in-Ok-Long-clause-continues g c =
     let is = c.in-Ok-Long.is ∙ ap Ok c.in-Ok-Long.field-0-is in
@@ -32,25 +36,31 @@ returns-in-Ok-Long-clause-stops g c =
     Replied-stops _ _ _ _ _ _ _ _ _ _ takes c.long_text.ensures.replies
     c.write_reply-in-Ok-Long.ensures.replied
 
+pub returns-in-Ok-Long-clause-done : goal.returns-in-Ok-Long-clause-done
+returns-in-Ok-Long-clause-done g c =
+    Replied-not_done _ _ _ _ _ c.write_reply-in-Ok-Long.ensures.replied
+
 pub returns-in-Err-Failed-clause-stops : goal.returns-in-Err-Failed-clause-stops
-returns-in-Err-Failed-clause-stops g c first before run =
+returns-in-Err-Failed-clause-stops g c origin before run =
     let is = c.in-Err-Failed.is ∙ ap Err c.in-Err-Failed.field-0-is in
-    Ended-failed _ first before _ _ _ _ _ c.next.follows.holds-at-none refl run is
+    stops _ origin _ before _ _ (λ done. cc)
+    (Ended-failed _ origin before _ _ _ _ _ c.next.follows.holds-at-none refl run is)
 
 pub returns-in-Ok-End-clause-stops : goal.returns-in-Ok-End-clause-stops
-returns-in-Ok-End-clause-stops g c first before run =
+returns-in-Ok-End-clause-stops g c origin before run =
     let is = c.in-Ok-End.is ∙ ap Ok c.in-Ok-End.field-0-is in
     let reported = c.next.follows.holds-at-none in
     let same = c.end.ensures.taken in
-    Ended-or_held first before _ _ _ c.end.ensures.ends
-    (Ended-done _ first before _ _ _ _ _ reported same run is)
-    (Ended-done_held _ first before _ _ _ _ _ reported same run is)
+    Stops-or_held _ origin before _ _ _ _ c.end.ensures.ends
+    (Stops-done _ origin before _ _ _ _ _ reported same run is)
+    (Ended-done_held _ origin before _ _ _ _ _ reported same run is)
 
 pub returns-in-Err-Limit-clause-stops : goal.returns-in-Err-Limit-clause-stops
-returns-in-Err-Limit-clause-stops g c first before run =
+returns-in-Err-Limit-clause-stops g c origin before run =
     let is = c.in-Err-Limit.is ∙ ap Err c.in-Err-Limit.field-0-is in
     let reported = c.next.follows.holds-at-none in
     let same = c.end-in-Err-Limit.ensures.taken in
-    Ended-or_held first before _ _ _ c.end-in-Err-Limit.ensures.ends
-    (Ended-at_limit _ first before _ _ _ _ _ reported same run is)
-    (Ended-at_limit_held _ first before _ _ _ _ _ reported same run is)
+    Stops-or_held _ origin before _ _ _ _ c.end-in-Err-Limit.ensures.ends
+    (stops _ origin _ before _ _ (λ done. cc)
+    (Ended-at_limit _ origin before _ _ _ _ _ reported same run is))
+    (Ended-at_limit_held _ origin before _ _ _ _ _ reported same run is)
