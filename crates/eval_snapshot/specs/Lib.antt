@@ -1,0 +1,3 @@
+pub mod Dumped
+pub mod Fits
+pub mod Means
