@@ -1,0 +1,4 @@
+pub mod DumpLists
+pub mod DumpParts
+pub mod Spelled
+pub mod SpelledValues
