@@ -1,5 +1,5 @@
-//! Calls of `query_rewrite` and `runner_snapshot` with ample memory. They stand here because a
-//! crate with tests is proved twice.
+//! Calls of `query_rewrite`, `key_shards` and `runner_snapshot` with ample memory. They stand here
+//! because a crate with tests is proved twice.
 #![tactic(auto)]
 
 #[cfg(test)]
@@ -8,5 +8,7 @@ mod assertions;
 mod compilation;
 #[cfg(test)]
 mod rewriting;
+#[cfg(test)]
+mod shards;
 #[cfg(test)]
 mod snapshots;

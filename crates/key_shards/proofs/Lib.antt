@@ -1,0 +1,12 @@
+pub mod CheckedCollects
+pub mod Collected
+pub mod FewerCells
+pub mod FirstStands
+pub mod Gathered
+pub mod Limits
+pub mod Merged
+pub mod OneMerge
+pub mod Parting
+pub mod Ruled
+pub mod Shared
+pub mod Staying

@@ -1,0 +1,4 @@
+pub mod Collections
+pub mod Merging
+pub mod Parted
+pub mod Shares
