@@ -1,0 +1,9 @@
+pub mod Forms
+pub mod Lets
+pub mod LetTexts
+pub mod Memory
+pub mod Names
+pub mod Namings
+pub mod Programs
+pub mod StreamTexts
+pub mod Trees
