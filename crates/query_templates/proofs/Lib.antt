@@ -1,0 +1,11 @@
+mod Admitting
+mod Bytes
+mod Defining
+mod Expanding
+mod Files
+mod Firsts
+mod Lists
+mod Making
+mod Measuring
+mod Singles
+mod Using

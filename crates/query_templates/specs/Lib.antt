@@ -1,0 +1,15 @@
+pub mod Definitions
+pub mod Excess
+pub mod Expansion
+pub mod Extents
+pub mod File
+pub mod Fronts
+pub mod Lists
+pub mod Made
+pub mod Measured
+pub mod Names
+pub mod Plain
+pub mod Refusals
+pub mod Shown
+pub mod Templates
+pub mod Uses

@@ -1,0 +1,23 @@
+//! The terms of a plain file, from those of a file with templates.
+#![tactic(auto)]
+
+mod copies;
+mod definition;
+mod expansion;
+mod extent;
+mod file;
+mod filling;
+mod language;
+mod laws;
+mod measure;
+mod names;
+mod refusal;
+mod stop;
+mod template;
+mod term;
+mod uses;
+
+pub use file::expanded_file;
+pub use laws::a_file_without_definitions_is_plain;
+pub use refusal::{TemplateCause, TemplateRefusal};
+pub use stop::TemplateStop;
