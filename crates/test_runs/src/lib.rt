@@ -25,6 +25,8 @@ mod reasons;
 #[cfg(test)]
 mod refusals;
 #[cfg(test)]
+mod reported_places;
+#[cfg(test)]
 mod runs;
 #[cfg(test)]
 mod sessions;
