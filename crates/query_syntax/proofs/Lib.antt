@@ -1,12 +1,16 @@
+pub mod ExpressionsRead
 pub mod Fitting
+pub mod FoundHeads
 pub mod Heads
+pub mod LeavesRead
 pub mod Lists
 pub mod Names
 pub mod OneProgram
+pub mod ReadTerms
 pub mod Readings
+pub mod RecordSizes
 pub mod Records
 pub mod SomeProgram
 pub mod SomeTrees
-pub mod TableRows
 pub mod TopTerms
 pub mod WithinLimits

@@ -11,7 +11,7 @@ use Rattle.query_syntax.specs.Counts.{IsNameCount}
 use Rattle.query_syntax.specs.declared.leaf.Name.{Name}
 use Rattle.query_syntax.specs.Files.{all_before}
 use Rattle.query_syntax.specs.Fits.{Fits, HasForm}
-use Rattle.query_syntax.specs.Rows.{Row, head_in}
+use Rattle.query_syntax.specs.Rows.{Row, head_in, rows_of}
 use Rattle.query_syntax.specs.Written.{name_before, names_terms}
 use Rattle.query_syntax.proofs.Fitting.{all_fit}
 use Rattle.query_syntax.proofs.Heads.{head_found, head_missing, one_of_rows}
@@ -47,11 +47,12 @@ all_named arguments names index end named =
 abbrev pub names_at : ℕ → List TermPlace
 names_at count = replicate count place.Name
 
-abbrev pub key_row : ℕ → Row ℕ
-key_row count = record { is = count; word = codes "key"; places = names_at count }
+-- a key has two to four names
+abbrev pub key_counts : List ℕ
+key_counts = 2 ∷ 3 ∷ 4 ∷ []
 
-abbrev pub key_rows : List (Row ℕ)
-key_rows = key_row 2 ∷ key_row 3 ∷ key_row 4 ∷ []
+abbrev key_rows : List (Row ℕ)
+key_rows = rows_of (λ _. codes "key") names_at key_counts
 
 -- a call that is a key: its word, and one name at each of two to four places
 pub record IsKeyCall (word : List ℕ) (arguments : List Term) : Type 0 where
@@ -74,11 +75,11 @@ key_call word arguments has = by (head_in key_rows word (length arguments)) refl
   where
     by : (head : Option ℕ) → head ≡ head_in key_rows word (length arguments)
         → IsKeyCall word arguments
-    by None missing = absurd (head_missing ℕ (λ _. codes "key") names_at place.Key key_rows word
-        arguments refl has missing)
+    by None missing = absurd (head_missing ℕ (λ _. codes "key") names_at place.Key key_counts
+        word arguments refl has missing)
     by (Some count) found =
-        let at = head_found ℕ (λ _. codes "key") names_at place.Key key_rows word arguments count
-        ((refl, refl), ((refl, refl), ((refl, refl), tt))) refl has found in
+        let at = head_found ℕ (λ _. codes "key") names_at place.Key key_counts word arguments
+        count refl has found in
         let many = one_of_rows IsNameCount key_rows word (length arguments) count
         (of_two, (of_three, (of_four, tt))) (sym found) in
         record {

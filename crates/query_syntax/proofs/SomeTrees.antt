@@ -1,8 +1,7 @@
 -- Terms that have forms of their places are written by trees.
 use Rattle.std.proofs.Common.{◌≡◌, ℕ, zero, suc, ℤ, pos, negsuc, ◌||◌, Bool, true, false, List, []}
-use Rattle.std.proofs.Common.{◌∷◌, length, replicate, map, codes, Some, None, refl, ap, ◌∙◌, subst}
+use Rattle.std.proofs.Common.{◌∷◌, length, replicate, codes, Some, None, refl, ap, ◌∙◌, subst}
 use Rattle.std.proofs.Common.{arith}
-use Rattle.std.specs.List.{AllByRecursion}
 use Rattle.std.specs.Str.{bytes_eq}
 use Rattle.std.proofs.lemmas.Slice.Eq.{bytes_eq-Decides}
 use Rattle.language_base.specs.declared.span.Span.{Span}
@@ -35,31 +34,28 @@ use Rattle.query_syntax.specs.declared.stream.Kind.{Kind}
 use Rattle.query_syntax.specs.declared.stream.Kind.TheVariants as kind
 use Rattle.query_syntax.specs.declared.stream.Mode.{Mode}
 use Rattle.query_syntax.specs.declared.stream.Mode.TheVariants as mode
-use Rattle.query_syntax.specs.ExpressionHeads.{expression_word, expression_places, expressions}
-use Rattle.query_syntax.specs.ExpressionHeads.{compare_places, comparisons}
+use Rattle.query_syntax.specs.ExpressionHeads.{expression_word, expression_places, expression_heads}
+use Rattle.query_syntax.specs.ExpressionHeads.{compare_places, compares}
 use Rattle.query_syntax.specs.Expressions as e
 use Rattle.query_syntax.specs.Expressions.{Expression, Expressions}
 use Rattle.query_syntax.specs.Files.{column_before, digits_before, kind_before, mode_before}
-use Rattle.query_syntax.specs.PredicateHeads.{predicate_word, predicate_places, predicates}
+use Rattle.query_syntax.specs.PredicateHeads.{predicate_word, predicate_places, predicate_heads}
 use Rattle.query_syntax.specs.Predicates as p
 use Rattle.query_syntax.specs.Predicates.{Predicate}
 use Rattle.query_syntax.specs.Queries as q
 use Rattle.query_syntax.specs.Queries.{Query}
-use Rattle.query_syntax.specs.QueryHeads.{query_word, query_places, queries}
-use Rattle.query_syntax.specs.RateHeads.{rate_word, rate_places, rates}
+use Rattle.query_syntax.specs.QueryHeads.{query_word, query_places, query_heads}
+use Rattle.query_syntax.specs.RateHeads.{rate_word, rate_places, rate_heads}
 use Rattle.query_syntax.specs.Rates as r
 use Rattle.query_syntax.specs.Rates.{Rate}
-use Rattle.query_syntax.specs.Rows.{Row}
 use Rattle.query_syntax.specs.Words.{compare_word}
 use Rattle.query_syntax.specs.Written.{index_before, name_before, number_before, text_before}
 use Rattle.query_syntax.specs.Written.{key_before, names_terms}
 use Rattle.query_syntax.specs.Written.{literal_before, expression_before, expressions_terms}
 use Rattle.query_syntax.specs.Written.{predicate_before, rate_before, query_before}
 use Rattle.query_syntax.proofs.Fitting.{form_at, places_count}
-use Rattle.query_syntax.proofs.Heads.{form_of, IsOf, form_found}
-use Rattle.query_syntax.proofs.Names.{key_rows, names_at}
-use Rattle.query_syntax.proofs.TableRows.{expressions_are, comparisons_are, predicates_are}
-use Rattle.query_syntax.proofs.TableRows.{rates_are, queries_are}
+use Rattle.query_syntax.proofs.Heads.{form_found, forms_of}
+use Rattle.query_syntax.proofs.Names.{key_counts, names_at}
 
 -- a comparison with its operands and its place
 pub record Comparison : Type 0 where
@@ -333,21 +329,20 @@ kind_tree : (arguments : Terms) (span : Span) → AreTrees (place.Digits ∷ [])
 kind_tree arguments span (_, (n, is-n), end) =
     (kind.Fixed n span, with _ span arguments _ (is-n ∙ ap (digits_before n) end))
 
--- a call of a table's row
-row_tree : (H Tree : Type 0) (word_of : H → List ℕ) (places_of_head : H → List TermPlace)
-    (before : Tree → Terms → Terms) (rows : List (Row H))
-    → AllByRecursion (IsOf H word_of places_of_head) rows
+-- a call of a table
+head_tree : (H Tree : Type 0) (word_of : H → List ℕ) (places_of_head : H → List TermPlace)
+    (before : Tree → Terms → Terms) (heads : List H)
     → ((head : H) (arguments : Terms) (span : Span) → AreTrees (places_of_head head) arguments
     → Makes Tree before (word_of head) arguments span)
     → (head_word : List ℕ) (arguments : Terms) (span : Span) (rest : Terms)
     (places : List TermPlace)
-    → places_in (map form_of rows) head_word (count_of arguments) ≡ Some places
+    → places_in (forms_of word_of places_of_head heads) head_word (count_of arguments) ≡ Some places
     → AreTrees places arguments
     → (tree : Tree) × (call head_word arguments span rest ≡ before tree rest)
-row_tree H Tree word_of places_of_head before rows are makes head_word arguments span rest
+head_tree H Tree word_of places_of_head before heads makes head_word arguments span rest
     places found trees =
-    let head = form_found H word_of places_of_head rows head_word (count_of arguments)
-    places are found in
+    let head = form_found H word_of places_of_head heads head_word (count_of arguments)
+    places found in
     let tree = makes head.0 arguments span (subst (λ ps. AreTrees ps arguments) head.2 trees) in
     (tree.0, ap (λ w. call w arguments span rest) head.1 ∙ tree.1 rest)
 
@@ -356,32 +351,29 @@ call_tree : (at : TermPlace) (head_word : List ℕ) (arguments : Terms) (span : 
     (places : List TermPlace) → places_of at head_word (count_of arguments) ≡ Some places
     → AreTrees places arguments → IsTree at (call head_word arguments span rest) rest
 call_tree place.Expr head_word arguments span rest places found trees =
-    row_tree _ _ expression_word expression_places expression_before expressions expressions_are
+    head_tree _ _ expression_word expression_places expression_before expression_heads
     expression_tree head_word arguments span rest places found trees
 call_tree place.Compare head_word arguments span rest places found trees =
-    row_tree _ _ compare_word compare_places comparison_before comparisons comparisons_are
+    head_tree _ _ compare_word compare_places comparison_before compares
     comparison_tree head_word arguments span rest places found trees
 call_tree place.Pred head_word arguments span rest places found trees =
-    row_tree _ _ predicate_word predicate_places predicate_before predicates predicates_are
+    head_tree _ _ predicate_word predicate_places predicate_before predicate_heads
     predicate_tree head_word arguments span rest places found trees
 call_tree place.Rate head_word arguments span rest places found trees =
-    row_tree _ _ rate_word rate_places rate_before rates rates_are rate_tree head_word arguments
+    head_tree _ _ rate_word rate_places rate_before rate_heads rate_tree head_word arguments
     span rest places found trees
 call_tree place.Query head_word arguments span rest places found trees =
-    row_tree _ _ query_word query_places query_before queries queries_are query_tree head_word
+    head_tree _ _ query_word query_places query_before query_heads query_tree head_word
     arguments span rest places found trees
 call_tree place.Key head_word arguments span rest places found trees =
-    row_tree ℕ _ (λ _. codes "key") names_at key_before key_rows
-    ((refl, refl), ((refl, refl), ((refl, refl), tt)))
+    head_tree ℕ _ (λ _. codes "key") names_at key_before key_counts
     key_tree head_word arguments span rest places found trees
 call_tree place.Column head_word arguments span rest places found trees =
-    row_tree (Unit {0}) _ (λ _. codes "col") (λ _. place.Name ∷ place.Kind ∷ []) column_before
-    (record { is = tt; word = codes "col"; places = place.Name ∷ place.Kind ∷ [] } ∷ [])
-    ((refl, refl), tt) (λ _. column_tree) head_word arguments span rest places found trees
+    head_tree (Unit {0}) _ (λ _. codes "col") (λ _. place.Name ∷ place.Kind ∷ []) column_before
+    (tt ∷ []) (λ _. column_tree) head_word arguments span rest places found trees
 call_tree place.Kind head_word arguments span rest places found trees =
-    row_tree (Unit {0}) _ (λ _. codes "fixed") (λ _. place.Digits ∷ []) kind_before
-    (record { is = tt; word = codes "fixed"; places = place.Digits ∷ [] } ∷ []) ((refl, refl), tt)
-    (λ _. kind_tree) head_word arguments span rest places found trees
+    head_tree (Unit {0}) _ (λ _. codes "fixed") (λ _. place.Digits ∷ []) kind_before
+    (tt ∷ []) (λ _. kind_tree) head_word arguments span rest places found trees
 call_tree _ head_word arguments span rest places found trees = absurd (cc)
 
 -- terms at places, none of which is unfit

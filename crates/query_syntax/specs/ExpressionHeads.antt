@@ -1,5 +1,5 @@
 -- For the prover. The calls that are expressions and comparisons.
-use Rattle.std.specs.Prelude.{ℕ, List, [], ◌∷◌, ◌++◌, replicate, codes}
+use Rattle.std.specs.Prelude.{ℕ, List, [], ◌∷◌, replicate, codes}
 use Rattle.query_forms.specs.declared.term_place.TermPlace.{TermPlace}
 use Rattle.query_forms.specs.declared.term_place.TermPlace.TheVariants as place
 use Rattle.few_parts.specs.Sizes.{IsRecordSize}
@@ -12,7 +12,7 @@ use Rattle.query_syntax.specs.declared.operator.Summary.TheVariants.{Sum, Count}
 use Rattle.query_syntax.specs.declared.operator.Extremum.TheVariants as extremum
 use Rattle.query_syntax.specs.declared.expression_head.ExpressionHead.{ExpressionHead}
 use Rattle.query_syntax.specs.declared.expression_head.ExpressionHead.TheVariants as head
-use Rattle.query_syntax.specs.Rows.{Row, row}
+use Rattle.query_syntax.specs.Rows.{Row, rows_of}
 use Rattle.query_syntax.specs.Words.{unary_word, binary_word, compare_word, summary_word}
 use Rattle.query_syntax.specs.Words.{extremum_word}
 
@@ -47,71 +47,45 @@ HasRecordSize _ = Unit {0}
 abbrev pub compare_places : Compare → List TermPlace
 compare_places compare = place.Expr ∷ place.Expr ∷ []
 
--- one of the calls that are expressions
-abbrev expression : ExpressionHead → Row ExpressionHead
-expression head = row head (expression_word head) (expression_places head)
-
--- those without records
-abbrev pub without_records : List (Row ExpressionHead)
-without_records =
-    expression (head.Unary Neg)
-    ∷ expression (head.Unary Abs)
-    ∷ expression (head.Binary Add)
-    ∷ expression (head.Binary Sub)
-    ∷ expression (head.Binary Mul)
-    ∷ expression (head.Binary Div)
-    ∷ expression (head.Binary Rem)
-    ∷ expression (head.Binary Min)
-    ∷ expression (head.Binary Max)
-    ∷ expression head.If
-    ∷ expression (head.Summary Sum)
-    ∷ expression (head.Summary Count)
-    ∷ expression (head.Extremum extremum.Max)
-    ∷ expression (head.Extremum extremum.Min)
-    ∷ expression head.Get
+-- those of records, which have two to eight parts
+abbrev pub record_heads : List ExpressionHead
+record_heads =
+    head.Record 2
+    ∷ head.Record 3
+    ∷ head.Record 4
+    ∷ head.Record 5
+    ∷ head.Record 6
+    ∷ head.Record 7
+    ∷ head.Record 8
     ∷ []
-
--- the records, of two to eight parts
-abbrev pub records : List (Row ExpressionHead)
-records =
-    expression (head.Record 2)
-    ∷ expression (head.Record 3)
-    ∷ expression (head.Record 4)
-    ∷ expression (head.Record 5)
-    ∷ expression (head.Record 6)
-    ∷ expression (head.Record 7)
-    ∷ expression (head.Record 8)
-    ∷ []
-
--- those, and a part of one
-abbrev pub of_records : List (Row ExpressionHead)
-of_records = expression head.Part ∷ records
 
 -- all calls that are expressions
+abbrev pub expression_heads : List ExpressionHead
+expression_heads =
+    head.Unary Neg
+    ∷ head.Unary Abs
+    ∷ head.Binary Add
+    ∷ head.Binary Sub
+    ∷ head.Binary Mul
+    ∷ head.Binary Div
+    ∷ head.Binary Rem
+    ∷ head.Binary Min
+    ∷ head.Binary Max
+    ∷ head.If
+    ∷ head.Summary Sum
+    ∷ head.Summary Count
+    ∷ head.Extremum extremum.Max
+    ∷ head.Extremum extremum.Min
+    ∷ head.Get
+    ∷ head.Part
+    ∷ record_heads
+
 abbrev pub expressions : List (Row ExpressionHead)
-expressions = without_records ++ of_records
-
--- the calls of an operator on two numbers
-abbrev pub binaries : List (Row ExpressionHead)
-binaries =
-    expression (head.Binary Add)
-    ∷ expression (head.Binary Sub)
-    ∷ expression (head.Binary Mul)
-    ∷ expression (head.Binary Div)
-    ∷ expression (head.Binary Rem)
-    ∷ expression (head.Binary Min)
-    ∷ expression (head.Binary Max)
-    ∷ []
-
--- the calls of a table and one value more
-abbrev pub extrema : List (Row ExpressionHead)
-extrema = expression (head.Extremum extremum.Max) ∷ expression (head.Extremum extremum.Min) ∷ []
-
--- one of the calls that are comparisons
-abbrev comparison : Compare → Row Compare
-comparison compare = row compare (compare_word compare) (compare_places compare)
+expressions = rows_of expression_word expression_places expression_heads
 
 -- all calls that are comparisons
+abbrev pub compares : List Compare
+compares = Lt ∷ Le ∷ Gt ∷ Ge ∷ Eq ∷ Ne ∷ []
+
 abbrev pub comparisons : List (Row Compare)
-comparisons = comparison Lt ∷ comparison Le ∷ comparison Gt ∷ comparison Ge ∷ comparison Eq
-    ∷ comparison Ne ∷ []
+comparisons = rows_of compare_word compare_places compares

@@ -15,6 +15,7 @@ pub mod QueryHeads
 pub mod RateHeads
 pub mod Rates
 pub mod Rows
+pub mod ShownRows
 pub mod Spans
 pub mod Tops
 pub mod Words

@@ -7,7 +7,7 @@ use Rattle.query_syntax.specs.declared.operator.Order.TheVariants as order
 use Rattle.query_syntax.specs.declared.operator.Connective.TheVariants.{And, Or}
 use Rattle.query_syntax.specs.declared.predicate_head.PredicateHead.{PredicateHead}
 use Rattle.query_syntax.specs.declared.predicate_head.PredicateHead.TheVariants as head
-use Rattle.query_syntax.specs.Rows.{Row, row}
+use Rattle.query_syntax.specs.Rows.{Row, rows_of}
 use Rattle.query_syntax.specs.Words.{equality_word, order_word, connective_word}
 
 -- the head word of each
@@ -28,22 +28,21 @@ predicate_places head.IsNum = place.Name ∷ []
 predicate_places (head.Joined connective) = place.Pred ∷ place.Pred ∷ []
 predicate_places head.Not = place.Pred ∷ []
 
--- one of the calls that are predicates
-abbrev predicate : PredicateHead → Row PredicateHead
-predicate head = row head (predicate_word head) (predicate_places head)
-
 -- all calls that are predicates
-abbrev pub predicates : List (Row PredicateHead)
-predicates =
-    predicate (head.Equality equality.Eq)
-    ∷ predicate (head.Equality equality.Ne)
-    ∷ predicate (head.Order order.Lt)
-    ∷ predicate (head.Order order.Le)
-    ∷ predicate (head.Order order.Gt)
-    ∷ predicate (head.Order order.Ge)
-    ∷ predicate head.Between
-    ∷ predicate head.IsNum
-    ∷ predicate (head.Joined And)
-    ∷ predicate (head.Joined Or)
-    ∷ predicate head.Not
+abbrev pub predicate_heads : List PredicateHead
+predicate_heads =
+    head.Equality equality.Eq
+    ∷ head.Equality equality.Ne
+    ∷ head.Order order.Lt
+    ∷ head.Order order.Le
+    ∷ head.Order order.Gt
+    ∷ head.Order order.Ge
+    ∷ head.Between
+    ∷ head.IsNum
+    ∷ head.Joined And
+    ∷ head.Joined Or
+    ∷ head.Not
     ∷ []
+
+abbrev pub predicates : List (Row PredicateHead)
+predicates = rows_of predicate_word predicate_places predicate_heads

@@ -6,7 +6,7 @@ use Rattle.query_syntax.specs.declared.query_head.QueryHead.{QueryHead}
 use Rattle.query_syntax.specs.declared.query_head.QueryHead.TheVariants.{Atom, Eps, Or, Split, Iter}
 use Rattle.query_syntax.specs.declared.query_head.QueryHead.TheVariants.{Combine, Apply, Compose}
 use Rattle.query_syntax.specs.declared.query_head.QueryHead.TheVariants.{Collect}
-use Rattle.query_syntax.specs.Rows.{Row, row}
+use Rattle.query_syntax.specs.Rows.{Row, rows_of}
 
 -- the head word of each
 abbrev pub query_word : QueryHead → List ℕ
@@ -32,12 +32,10 @@ query_places Apply = place.Query ∷ place.Expr ∷ []
 query_places Compose = place.Query ∷ place.Query ∷ []
 query_places Collect = place.Key ∷ place.Pred ∷ place.Rate ∷ place.Query ∷ []
 
--- one of the calls that are queries
-abbrev query : QueryHead → Row QueryHead
-query head = row head (query_word head) (query_places head)
-
 -- all calls that are queries
+abbrev pub query_heads : List QueryHead
+query_heads =
+    Atom ∷ Eps ∷ Or ∷ Split ∷ Iter ∷ Combine ∷ Apply ∷ Compose ∷ Collect ∷ []
+
 abbrev pub queries : List (Row QueryHead)
-queries =
-    query Atom ∷ query Eps ∷ query Or ∷ query Split ∷ query Iter ∷ query Combine ∷ query Apply
-    ∷ query Compose ∷ query Collect ∷ []
+queries = rows_of query_word query_places query_heads

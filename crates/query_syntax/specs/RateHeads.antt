@@ -5,7 +5,7 @@ use Rattle.query_forms.specs.declared.term_place.TermPlace.TheVariants as place
 use Rattle.query_syntax.specs.declared.operator.Join.TheVariants.{Seq, Alt}
 use Rattle.query_syntax.specs.declared.rate_head.RateHead.{RateHead}
 use Rattle.query_syntax.specs.declared.rate_head.RateHead.TheVariants.{Item, Joined, Star}
-use Rattle.query_syntax.specs.Rows.{Row, row}
+use Rattle.query_syntax.specs.Rows.{Row, rows_of}
 use Rattle.query_syntax.specs.Words.{join_word}
 
 -- the head word of each
@@ -20,10 +20,9 @@ rate_places Item = place.Pred ∷ []
 rate_places (Joined join) = place.Rate ∷ place.Rate ∷ []
 rate_places Star = place.Rate ∷ []
 
--- one of the calls that are rates
-abbrev rate : RateHead → Row RateHead
-rate head = row head (rate_word head) (rate_places head)
-
 -- all calls that are rates
+abbrev pub rate_heads : List RateHead
+rate_heads = Item ∷ Joined Seq ∷ Joined Alt ∷ Star ∷ []
+
 abbrev pub rates : List (Row RateHead)
-rates = rate Item ∷ rate (Joined Seq) ∷ rate (Joined Alt) ∷ rate Star ∷ []
+rates = rows_of rate_word rate_places rate_heads

@@ -1,14 +1,14 @@
 //! The calls that are expressions and comparisons, by their head words.
 ghost use Rattle.std.specs.Prelude.{◌≡◌};
 ghost use Rattle.query_forms.specs.declared.term_place.TermPlace.TheVariants as place;
-ghost use Rattle.query_syntax.specs.ExpressionHeads.{binaries, comparisons, compare_places};
+ghost use Rattle.query_syntax.specs.ExpressionHeads.{HasRecordSize, comparisons, compare_places};
 ghost use Rattle.query_syntax.specs.ExpressionHeads.{expression_places, expression_word};
-ghost use Rattle.query_syntax.specs.ExpressionHeads.{expressions, extrema};
-ghost use Rattle.query_syntax.specs.ExpressionHeads.{HasRecordSize, of_records, without_records};
+ghost use Rattle.query_syntax.specs.ExpressionHeads.{expressions};
 ghost use Rattle.query_syntax.specs.Fits.{AllFit, HasForm};
 ghost use Rattle.query_syntax.specs.Rows.{head_in};
 ghost use Rattle.query_syntax.specs.Words.{compare_word};
 
+use crate::head_table::{Row, head_in};
 use crate::{BinaryOp, Compare, Extremum, Summary, UnaryOp};
 use query_parser::Term;
 
@@ -26,96 +26,36 @@ pub(crate) enum ExpressionHead {
     Record(usize),
 }
 
+const EXPRESSIONS: &[Row<ExpressionHead>] = &[
+    Row(ExpressionHead::Unary(UnaryOp::Neg), b"neg", 1),
+    Row(ExpressionHead::Unary(UnaryOp::Abs), b"abs", 1),
+    Row(ExpressionHead::Binary(BinaryOp::Add), b"add", 2),
+    Row(ExpressionHead::Binary(BinaryOp::Sub), b"sub", 2),
+    Row(ExpressionHead::Binary(BinaryOp::Mul), b"mul", 2),
+    Row(ExpressionHead::Binary(BinaryOp::Div), b"div", 2),
+    Row(ExpressionHead::Binary(BinaryOp::Rem), b"rem", 2),
+    Row(ExpressionHead::Binary(BinaryOp::Min), b"min", 2),
+    Row(ExpressionHead::Binary(BinaryOp::Max), b"max", 2),
+    Row(ExpressionHead::If, b"if", 3),
+    Row(ExpressionHead::Summary(Summary::Sum), b"tsum", 1),
+    Row(ExpressionHead::Summary(Summary::Count), b"tcount", 1),
+    Row(ExpressionHead::Extremum(Extremum::Max), b"tmax", 2),
+    Row(ExpressionHead::Extremum(Extremum::Min), b"tmin", 2),
+    Row(ExpressionHead::Get, b"tget", 3),
+    Row(ExpressionHead::Part, b"part", 2),
+    Row(ExpressionHead::Record(2), b"rec", 2),
+    Row(ExpressionHead::Record(3), b"rec", 3),
+    Row(ExpressionHead::Record(4), b"rec", 4),
+    Row(ExpressionHead::Record(5), b"rec", 5),
+    Row(ExpressionHead::Record(6), b"rec", 6),
+    Row(ExpressionHead::Record(7), b"rec", 7),
+    Row(ExpressionHead::Record(8), b"rec", 8),
+];
+
 fn expression_named(word: &[u8], count: usize) -> Option<ExpressionHead>
     ensures { result ≡ head_in expressions word.now count }
 {
-    match named_without_records(word, count) {
-        Some(head) => Some(head),
-        None => record_named(word, count),
-    }
-}
-
-// The record or the part of one that a call is.
-fn record_named(word: &[u8], count: usize) -> Option<ExpressionHead>
-    ensures { result ≡ head_in of_records word.now count }
-{
-    if word == b"part".as_slice() && count == 2 {
-        Some(ExpressionHead::Part)
-    } else if word == b"rec".as_slice() && 2 <= count && count <= 8 {
-        Some(ExpressionHead::Record(count))
-    } else {
-        None
-    }
-}
-
-fn named_without_records(word: &[u8], count: usize) -> Option<ExpressionHead>
-    ensures { result ≡ head_in without_records word.now count }
-{
-    match count {
-        1 => named_with_one(word),
-        2 => named_with_two(word),
-        3 => named_with_three(word),
-        _ => None,
-    }
-}
-
-// The expression that a call with one argument is.
-fn named_with_one(word: &[u8]) -> Option<ExpressionHead>
-    ensures { result ≡ head_in without_records word.now 1 }
-{
-    match word {
-        b"neg" => Some(ExpressionHead::Unary(UnaryOp::Neg)),
-        b"abs" => Some(ExpressionHead::Unary(UnaryOp::Abs)),
-        b"tsum" => Some(ExpressionHead::Summary(Summary::Sum)),
-        b"tcount" => Some(ExpressionHead::Summary(Summary::Count)),
-        _ => None,
-    }
-}
-
-fn named_with_two(word: &[u8]) -> Option<ExpressionHead>
-    ensures { result ≡ head_in without_records word.now 2 }
-{
-    match binary_named(word) {
-        Some(head) => Some(head),
-        None => extremum_named(word),
-    }
-}
-
-// The expression that a call of an operator on two numbers is.
-fn binary_named(word: &[u8]) -> Option<ExpressionHead>
-    ensures { result ≡ head_in binaries word.now 2 }
-{
-    match word {
-        b"add" => Some(ExpressionHead::Binary(BinaryOp::Add)),
-        b"sub" => Some(ExpressionHead::Binary(BinaryOp::Sub)),
-        b"mul" => Some(ExpressionHead::Binary(BinaryOp::Mul)),
-        b"div" => Some(ExpressionHead::Binary(BinaryOp::Div)),
-        b"rem" => Some(ExpressionHead::Binary(BinaryOp::Rem)),
-        b"min" => Some(ExpressionHead::Binary(BinaryOp::Min)),
-        b"max" => Some(ExpressionHead::Binary(BinaryOp::Max)),
-        _ => None,
-    }
-}
-
-// The expression that a call of a table and one value more is.
-fn extremum_named(word: &[u8]) -> Option<ExpressionHead>
-    ensures { result ≡ head_in extrema word.now 2 }
-{
-    match word {
-        b"tmax" => Some(ExpressionHead::Extremum(Extremum::Max)),
-        b"tmin" => Some(ExpressionHead::Extremum(Extremum::Min)),
-        _ => None,
-    }
-}
-
-fn named_with_three(word: &[u8]) -> Option<ExpressionHead>
-    ensures { result ≡ head_in without_records word.now 3 }
-{
-    match word {
-        b"if" => Some(ExpressionHead::If),
-        b"tget" => Some(ExpressionHead::Get),
-        _ => None,
-    }
+    head_in(EXPRESSIONS, word, count)
 }
 
 pub(crate) fn expression_head(word: &[u8], arguments: &[Term]) -> ExpressionHead
@@ -130,18 +70,19 @@ pub(crate) fn expression_head(word: &[u8], arguments: &[Term]) -> ExpressionHead
     }
 }
 
+const COMPARISONS: &[Row<Compare>] = &[
+    Row(Compare::Lt, b"lt", 2),
+    Row(Compare::Le, b"le", 2),
+    Row(Compare::Gt, b"gt", 2),
+    Row(Compare::Ge, b"ge", 2),
+    Row(Compare::Eq, b"eq", 2),
+    Row(Compare::Ne, b"ne", 2),
+];
+
 fn comparison_named(word: &[u8], count: usize) -> Option<Compare>
     ensures { result ≡ head_in comparisons word.now count }
 {
-    match (word, count) {
-        (b"lt", 2) => Some(Compare::Lt),
-        (b"le", 2) => Some(Compare::Le),
-        (b"gt", 2) => Some(Compare::Gt),
-        (b"ge", 2) => Some(Compare::Ge),
-        (b"eq", 2) => Some(Compare::Eq),
-        (b"ne", 2) => Some(Compare::Ne),
-        _ => None,
-    }
+    head_in(COMPARISONS, word, count)
 }
 
 pub(crate) fn comparison_head(word: &[u8], arguments: &[Term]) -> Compare

@@ -8,7 +8,7 @@ pub struct Name {
     pub span: Span,
 }
 
-#[derive(Clone, Copy, Debug, PartialEq, Eq)]
+#[derive(Clone, Copy, Debug)]
 pub struct Number {
     pub value: i64,
     pub span: Span,

@@ -6,6 +6,7 @@ mod expression;
 mod expression_calls;
 mod expression_head;
 mod expression_reading;
+mod head_table;
 mod key;
 mod key_reading;
 mod laws;

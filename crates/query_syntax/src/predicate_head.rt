@@ -5,6 +5,7 @@ ghost use Rattle.query_syntax.specs.Fits.{AllFit, HasForm};
 ghost use Rattle.query_syntax.specs.PredicateHeads.{predicate_places, predicate_word, predicates};
 ghost use Rattle.query_syntax.specs.Rows.{head_in};
 
+use crate::head_table::{Row, head_in};
 use crate::{Connective, Equality, Order};
 use query_parser::Term;
 
@@ -19,51 +20,24 @@ pub(crate) enum PredicateHead {
     Not,
 }
 
+const PREDICATES: &[Row<PredicateHead>] = &[
+    Row(PredicateHead::Equality(Equality::Eq), b"eq", 2),
+    Row(PredicateHead::Equality(Equality::Ne), b"ne", 2),
+    Row(PredicateHead::Order(Order::Lt), b"lt", 2),
+    Row(PredicateHead::Order(Order::Le), b"le", 2),
+    Row(PredicateHead::Order(Order::Gt), b"gt", 2),
+    Row(PredicateHead::Order(Order::Ge), b"ge", 2),
+    Row(PredicateHead::Between, b"between", 3),
+    Row(PredicateHead::IsNum, b"isnum", 1),
+    Row(PredicateHead::Joined(Connective::And), b"and", 2),
+    Row(PredicateHead::Joined(Connective::Or), b"or", 2),
+    Row(PredicateHead::Not, b"not", 1),
+];
+
 fn predicate_named(word: &[u8], count: usize) -> Option<PredicateHead>
     ensures { result ≡ head_in predicates word.now count }
 {
-    match count {
-        1 => named_with_one(word),
-        2 => named_with_two(word),
-        3 => named_with_three(word),
-        _ => None,
-    }
-}
-
-// The predicate that a call with one argument is.
-fn named_with_one(word: &[u8]) -> Option<PredicateHead>
-    ensures { result ≡ head_in predicates word.now 1 }
-{
-    match word {
-        b"isnum" => Some(PredicateHead::IsNum),
-        b"not" => Some(PredicateHead::Not),
-        _ => None,
-    }
-}
-
-fn named_with_two(word: &[u8]) -> Option<PredicateHead>
-    ensures { result ≡ head_in predicates word.now 2 }
-{
-    match word {
-        b"eq" => Some(PredicateHead::Equality(Equality::Eq)),
-        b"ne" => Some(PredicateHead::Equality(Equality::Ne)),
-        b"lt" => Some(PredicateHead::Order(Order::Lt)),
-        b"le" => Some(PredicateHead::Order(Order::Le)),
-        b"gt" => Some(PredicateHead::Order(Order::Gt)),
-        b"ge" => Some(PredicateHead::Order(Order::Ge)),
-        b"and" => Some(PredicateHead::Joined(Connective::And)),
-        b"or" => Some(PredicateHead::Joined(Connective::Or)),
-        _ => None,
-    }
-}
-
-fn named_with_three(word: &[u8]) -> Option<PredicateHead>
-    ensures { result ≡ head_in predicates word.now 3 }
-{
-    match word {
-        b"between" => Some(PredicateHead::Between),
-        _ => None,
-    }
+    head_in(PREDICATES, word, count)
 }
 
 pub(crate) fn predicate_head(word: &[u8], arguments: &[Term]) -> PredicateHead

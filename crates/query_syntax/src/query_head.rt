@@ -5,6 +5,7 @@ ghost use Rattle.query_syntax.specs.Fits.{AllFit, HasForm};
 ghost use Rattle.query_syntax.specs.QueryHeads.{queries, query_places, query_word};
 ghost use Rattle.query_syntax.specs.Rows.{head_in};
 
+use crate::head_table::{Row, head_in};
 use query_parser::Term;
 
 /// A call that is a query.
@@ -21,58 +22,22 @@ pub(crate) enum QueryHead {
     Collect,
 }
 
+const QUERIES: &[Row<QueryHead>] = &[
+    Row(QueryHead::Atom, b"atom", 2),
+    Row(QueryHead::Eps, b"eps", 1),
+    Row(QueryHead::Or, b"or", 2),
+    Row(QueryHead::Split, b"split", 3),
+    Row(QueryHead::Iter, b"iter", 3),
+    Row(QueryHead::Combine, b"combine", 3),
+    Row(QueryHead::Apply, b"apply", 2),
+    Row(QueryHead::Compose, b"compose", 2),
+    Row(QueryHead::Collect, b"collect", 4),
+];
+
 fn query_named(word: &[u8], count: usize) -> Option<QueryHead>
     ensures { result ≡ head_in queries word.now count }
 {
-    match count {
-        1 => named_with_one(word),
-        2 => named_with_two(word),
-        3 => named_with_three(word),
-        4 => named_with_four(word),
-        _ => None,
-    }
-}
-
-// The query that a call with one argument is.
-fn named_with_one(word: &[u8]) -> Option<QueryHead>
-    ensures { result ≡ head_in queries word.now 1 }
-{
-    match word {
-        b"eps" => Some(QueryHead::Eps),
-        _ => None,
-    }
-}
-
-fn named_with_two(word: &[u8]) -> Option<QueryHead>
-    ensures { result ≡ head_in queries word.now 2 }
-{
-    match word {
-        b"atom" => Some(QueryHead::Atom),
-        b"or" => Some(QueryHead::Or),
-        b"apply" => Some(QueryHead::Apply),
-        b"compose" => Some(QueryHead::Compose),
-        _ => None,
-    }
-}
-
-fn named_with_three(word: &[u8]) -> Option<QueryHead>
-    ensures { result ≡ head_in queries word.now 3 }
-{
-    match word {
-        b"split" => Some(QueryHead::Split),
-        b"iter" => Some(QueryHead::Iter),
-        b"combine" => Some(QueryHead::Combine),
-        _ => None,
-    }
-}
-
-fn named_with_four(word: &[u8]) -> Option<QueryHead>
-    ensures { result ≡ head_in queries word.now 4 }
-{
-    match word {
-        b"collect" => Some(QueryHead::Collect),
-        _ => None,
-    }
+    head_in(QUERIES, word, count)
 }
 
 pub(crate) fn query_head(word: &[u8], arguments: &[Term]) -> QueryHead

@@ -6,6 +6,7 @@ ghost use Rattle.query_syntax.specs.RateHeads.{rate_places, rate_word, rates};
 ghost use Rattle.query_syntax.specs.Rows.{head_in};
 
 use crate::Join;
+use crate::head_table::{Row, head_in};
 use query_parser::Term;
 
 /// A call that is a rate.
@@ -16,16 +17,17 @@ pub(crate) enum RateHead {
     Star,
 }
 
+const RATES: &[Row<RateHead>] = &[
+    Row(RateHead::Item, b"item", 1),
+    Row(RateHead::Joined(Join::Seq), b"seq", 2),
+    Row(RateHead::Joined(Join::Alt), b"alt", 2),
+    Row(RateHead::Star, b"star", 1),
+];
+
 fn rate_named(word: &[u8], count: usize) -> Option<RateHead>
     ensures { result ≡ head_in rates word.now count }
 {
-    match (word, count) {
-        (b"item", 1) => Some(RateHead::Item),
-        (b"seq", 2) => Some(RateHead::Joined(Join::Seq)),
-        (b"alt", 2) => Some(RateHead::Joined(Join::Alt)),
-        (b"star", 1) => Some(RateHead::Star),
-        _ => None,
-    }
+    head_in(RATES, word, count)
 }
 
 pub(crate) fn rate_head(word: &[u8], arguments: &[Term]) -> RateHead
