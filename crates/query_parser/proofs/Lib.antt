@@ -1,3 +1,4 @@
+pub mod Built
 pub mod Existence
 pub mod Faults
 pub mod IsFile
@@ -5,6 +6,7 @@ pub mod LiesAt
 pub mod LongestTokens
 pub mod OneReading
 pub mod OptionCases
+pub mod Outcomes
 pub mod Passes
 pub mod PlacedFile
 pub mod PlacedForms

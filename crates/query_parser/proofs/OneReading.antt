@@ -18,11 +18,11 @@ use Rattle.query_parser.specs.Reading.{refusal, HasTokens, HasTrees, HasTerms, H
 use Rattle.query_parser.specs.Reading.{IsRefused, long, token, term, depth, form, literal}
 
 -- what is some is not none
-some_or_none : {X : Type 0} (o : Option X) (x : X) → o ≡ None → o ≡ Some x → ⊥
+pub some_or_none : {X : Type 0} (o : Option X) (x : X) → o ≡ None → o ≡ Some x → ⊥
 some_or_none o x is_none is_some = cc
 
 -- and is one thing
-one_some : {X : Type 0} (o : Option X) (x y : X) → o ≡ Some x → o ≡ Some y → y ≡ x
+pub one_some : {X : Type 0} (o : Option X) (x y : X) → o ≡ Some x → o ≡ Some y → y ≡ x
 one_some o x y first second = cc
 
 module _ (text : List ℕ) where
@@ -31,7 +31,7 @@ module _ (text : List ℕ) where
   same_tokens a b has other = one_list 0 text a b has.are other.are
 
   -- and one list of trees
-  same_trees : (a b : Trees) → HasTrees text a → HasTrees text b → b ≡ a
+  pub same_trees : (a b : Trees) → HasTrees text a → HasTrees text b → b ≡ a
   same_trees a b has other =
       let tokens = same_tokens has.tokens other.tokens has.has other.has in
       only-terms a b has.tokens has.are (subst (AreTerms b) tokens other.are)
@@ -43,12 +43,12 @@ module _ (text : List ℕ) where
       one_terms text has.trees a b has.say (subst (λ t. Say text t b) trees other.say)
 
   -- a text of tokens has no token fault
-  no_token : (tokens before : List Token) (place : ℕ) → HasTokens text tokens
+  pub no_token : (tokens before : List Token) (place : ℕ) → HasTokens text tokens
       → FaultAfter 0 text before place → ⊥
   no_token tokens before place has fault = no_fault 0 place text tokens before has.are fault
 
   -- a text of trees is a list of terms
-  no_term : (trees : Trees) (tokens : List Token) (span : Span) → HasTrees text trees
+  pub no_term : (trees : Trees) (tokens : List Token) (span : Span) → HasTrees text trees
       → HasTokens text tokens →
       IsNoList tokens (length text) span → ⊥
   no_term trees tokens span has other none =

@@ -11,8 +11,9 @@ use Rattle.query_trees.specs.Trees.{Trees, first_deep}
 use Rattle.query_forms.specs.Terms.{Terms, none, word, number, string, call, bytes_at, IsTokenOf}
 use Rattle.query_forms.specs.Terms.{Say}
 use Rattle.query_parser.specs.Printing.{AreWritable, HasTerm}
+use Rattle.query_parser.specs.TreeReading.{HasTree}
 use Rattle.query_parser.proofs.OptionCases.{first_of_two-none, refused-none}
-use Rattle.query_parser.proofs.ReadTrees.{HasTree, AreTrees}
+use Rattle.query_parser.proofs.ReadTrees.{AreTrees}
 use Rattle.query_parser.proofs.ReadStrings.{string-bytes}
 
 -- a level that is not too deep

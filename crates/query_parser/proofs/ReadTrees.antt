@@ -5,11 +5,7 @@ use Rattle.query_tokens.specs.declared.token.Token.{Token}
 use Rattle.query_tokens.specs.declared.token.TokenKind.TheVariants.{Word}
 use Rattle.query_trees.specs.Trees.{Trees, none, leaf, call}
 use Rattle.query_trees.specs.Terms.{AreMore, AreArguments, AreTerms}
-
--- there is a tree
-abbrev pub HasTree : Trees → Type 0
-HasTree none = ⊥
-HasTree _ = Unit {0}
+use Rattle.query_parser.specs.TreeReading.{HasTree}
 
 -- tokens of trees of which something holds, where each call has a word and an argument
 abbrev pub AreTrees : (Token → Type 0) → Trees → Type 0

@@ -26,7 +26,7 @@ module _ (text : List ℕ) where
   AllTokens = AllByRecursion (IsTokenOf text)
 
   -- a term by itself, before others
-  leaf_reads : (token : Token) (rest : Trees) → IsTokenOf text token → IsLeaf token
+  pub leaf_reads : (token : Token) (rest : Trees) → IsTokenOf text token → IsLeaf token
       → Readable rest →
       Readable (leaf token rest)
   leaf_reads token rest of (inl is) more = (
@@ -41,7 +41,7 @@ module _ (text : List ℕ) where
       ((of, more.0), (plain.string string.0 token.span more.1.0, (is, string.1, refl, more.1.1)))
 
   -- a call, before others
-  call_reads : (head : Token) (arguments : Trees) (span : Span) (rest : Trees)
+  pub call_reads : (head : Token) (arguments : Trees) (span : Span) (rest : Trees)
       → IsTokenOf text head →
       Readable arguments → Readable rest → Readable (call head arguments span rest)
   call_reads head arguments span rest of inside more = (

@@ -14,6 +14,6 @@ mod term_text;
 pub use file::File;
 pub use laws::one_reading;
 pub use printer::print_file;
-pub use reader::read_file;
+pub use reader::{file_of, read_file, shallow_trees};
 pub use stop::ReadStop;
 pub use term::{Term, Terms};

@@ -2,10 +2,10 @@
 ghost use Rattle.std.specs.Prelude.{◌≡◌, ◌≤◌, IfOk, IfErr, length};
 ghost use Rattle.language_base.specs.declared.rule.Rule.{Rule};
 ghost use Rattle.query_trees.specs.Trees.{trees_of};
-ghost use Rattle.query_parser.specs.Passed.{AreShallow, ArePassed};
 ghost use Rattle.query_parser.specs.Plain.{terms_of};
 ghost use Rattle.query_parser.specs.Reading.{HasTokens, IsFileOf};
-ghost use Rattle.query_parser.specs.Stop.{IsStopAt};
+ghost use Rattle.query_parser.specs.Stop.{IsStopAfter, IsStopAt, IsStopBefore};
+ghost use Rattle.query_parser.specs.TreeReading.{AreFileOf, AreReadable, AreShallow};
 
 use crate::conversion::terms_of;
 use crate::{File, ReadStop};
@@ -23,31 +23,32 @@ pub fn read_file(alloc: Global, text: &[u8]) -> Result<File, ReadStop>
     ensures read { IfOk result (λ file. IsFileOf text.now (terms_of file)) }
     ensures stopped { IfErr result (IsStopAt text.now) }
 {
-    let trees = trees_of_file(alloc, text)?;
-    let terms = terms_of(alloc, text, &trees)?;
+    let trees = shallow_trees(alloc, text)?;
+    file_of(alloc, text, &trees)
+}
+
+/// The file that trees say, or the first rule that they break as one.
+pub fn file_of(alloc: Global, text: &[u8], trees: &[Tree]) -> Result<File, ReadStop>
+    requires { AreReadable text.now (trees_of trees.now) }
+    ensures file { IfOk result (λ file.
+        AreFileOf text.now (trees_of trees.now) (terms_of file)) }
+    ensures stopped { IfErr result (IsStopAfter text.now (trees_of trees.now)) }
+{
+    if let Some(span) = unfit_file(text, trees, text.len() as u32) {
+        return Err(refused(Rule::Form, span));
+    }
+    if let Some(span) = first_large(text, trees) {
+        return Err(refused(Rule::Literal, span));
+    }
+    let terms = terms_of(alloc, text, trees)?;
     Ok(File::new(terms))
 }
 
-/// The trees of a text that is a file.
-fn trees_of_file(alloc: Global, text: &[u8]) -> Result<Vec<Tree>, ReadStop>
-    ensures passed { IfOk result (λ trees. ArePassed text.now (trees_of trees.items)) }
-    ensures stopped { IfErr result (IsStopAt text.now) }
-{
-    let trees = shallow_trees(alloc, text)?;
-    let tops = trees.as_slice();
-    if let Some(span) = unfit_file(text, tops, text.len() as u32) {
-        return Err(refused(Rule::Form, span));
-    }
-    if let Some(span) = first_large(text, tops) {
-        return Err(refused(Rule::Literal, span));
-    }
-    Ok(trees)
-}
-
 /// The trees of a text, none of which is too deep.
-fn shallow_trees(alloc: Global, text: &[u8]) -> Result<Vec<Tree>, ReadStop>
+pub fn shallow_trees(alloc: Global, text: &[u8]) -> Result<Vec<Tree>, ReadStop>
     ensures shallow { IfOk result (λ trees. AreShallow text.now (trees_of trees.items)) }
-    ensures stopped { IfErr result (IsStopAt text.now) }
+    ensures readable { IfOk result (λ trees. AreReadable text.now (trees_of trees.items)) }
+    ensures stopped { IfErr result (IsStopBefore text.now) }
 {
     let tokens = tokens_of(alloc, text)?;
     match read_trees(alloc, &tokens, text.len() as u32) {
@@ -61,7 +62,7 @@ fn shallow_trees(alloc: Global, text: &[u8]) -> Result<Vec<Tree>, ReadStop>
 /// The tokens of a text that is not too long.
 fn tokens_of(alloc: Global, text: &[u8]) -> Result<Vec<Token>, ReadStop>
     ensures tokens { IfOk result (λ tokens. HasTokens text.now tokens.items) }
-    ensures stopped { IfErr result (IsStopAt text.now) }
+    ensures stopped { IfErr result (IsStopBefore text.now) }
 {
     if text.len() > MAX_TEXT {
         let first_beyond = Span {
