@@ -77,7 +77,7 @@ def compare_examples(tab, sqre, explain):
     for folder in sorted(EXAMPLES.iterdir()):
         items = folder / "readings.csv"
         files = {"query.sqre": (folder / "query.sqre").read_bytes(), "items": items.read_bytes() if items.exists() else b""}
-        for command in ("check", "why", "bound"):
+        for command in ("check", "why", "bound", "rewrite"):
             compare(tab, f"{command} of {folder.name}", "sqre", sqre, [command, "query.sqre"], files)
         compare(tab, f"a drill of {folder.name}", "sqre", sqre, ["drill", "query.sqre", "50", "7"], files)
         compare(tab, f"the answers to {folder.name}", "sqre", sqre, ["run", "query.sqre", "items"], files)

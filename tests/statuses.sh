@@ -47,9 +47,17 @@ ends 1 'refused iter 32..84
 first 0
 second 0 0
 ' 'ambiguous:2:6 (the column in bytes): refused iter 32..84' why ambiguous
+ends 0 'stream(plain, col(pulses, int))
+let(q1, atom(any, pulses))
+let(q2, iter(q1, 0, add(x, y)))
+main(q2)
+' '' rewrite query
+ends 1 'refused name 42..58
+' 'Not known here: pulse' rewrite refused
 ends 2 '' 'the words are none of' run query
 ends 2 '' 'the words are none of' run query items items
 ends 2 '' 'the words are none of' go query items
+ends 2 '' 'the words are none of' rewrite query items
 ends 2 '' 'the words are none of' drill query 1000001 0
 ends 3 '' 'the query nothing, which is not there, could not be read' run nothing items
 ends 3 '' 'the query ., which is a folder, could not be read' check .

@@ -11,6 +11,7 @@ use Rattle.query_compiler.specs.Stops.{IsShownFor}
 use Rattle.sqre_run.specs.Blames.{AreLinesOf, IsReasonOf}
 use Rattle.sqre_run.specs.declared.command.Command.{Command}
 use Rattle.sqre_run.specs.declared.command.Command.TheVariants.{Run, Check, Bound, Why, Drill}
+use Rattle.sqre_run.specs.declared.command.Command.TheVariants.{Rewrite}
 
 -- the refusal and such a word are a reason
 pub reason_found : (blame : Blame) (shown : Shown) → IsShownFor blame shown → (why : Refusal)
@@ -35,3 +36,4 @@ other_lines Check blame why (Ok line) not_why is are = are ∙ ap refusal_text i
 other_lines Bound blame why (Ok line) not_why is are = are ∙ ap refusal_text is
 other_lines Why blame why (Ok line) not_why is are = absurd (not_why refl)
 other_lines (Drill count seed) blame why (Ok line) not_why is are = are ∙ ap refusal_text is
+other_lines Rewrite blame why (Ok line) not_why is are = are ∙ ap refusal_text is

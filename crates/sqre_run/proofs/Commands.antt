@@ -26,10 +26,12 @@ use Rattle.stream_run.specs.Meanings.{IsMeaning, Meaning}
 use Rattle.sqre_run.specs.OneLine.{CompletesLine, HoldsOfLine, WritesLine}
 use Rattle.stream_run.specs.Outside.{Outside}
 use Rattle.sqre_run.specs.Reasons.{WritesReason}
+use Rattle.sqre_run.specs.Rewritten.{IsRewrittenText}
 use Rattle.query_compiler.specs.Stops.{IsBlamedIn, IsStopOf}
 use Rattle.sqre_run.specs.Blames.{AreLinesOf}
 use Rattle.sqre_run.specs.declared.command.Command.{Command}
 use Rattle.sqre_run.specs.declared.command.Command.TheVariants.{Run, Check, Bound, Why, Drill}
+use Rattle.sqre_run.specs.declared.command.Command.TheVariants.{Rewrite}
 use Rattle.query_compiler.specs.declared.query.QueryStop.TheVariants.{Refused as Refusing}
 use Rattle.stream_run.specs.declared.status.Status.{Status}
 use Rattle.stream_run.specs.declared.status.Status.TheVariants.{Done, ItemFault, SinkFault, Memory}
@@ -120,6 +122,21 @@ reported_drill count seed monitor reply is =
         subst P here holds
     given (Err error) is line same P holds meaning means = absurd (cc)
 
+-- and that of a rewritten query
+pub reported_rewrite : (monitor : Monitor) → (text : List ℕ) × IsRewrittenText monitor text
+    → (reply : Result (List ℕ) AllocError) → IfOk reply (IsRewrittenText monitor)
+    → (status : Status) (old new : Option (List ℕ)) → Reported status reply old new
+    → LineCarried Rewrite monitor status old new
+reported_rewrite monitor some reply is =
+    reported_line Rewrite monitor reply (λ P each. (some.0, some.1, each some.0)) (given reply is)
+  where
+    given : (reply : Result (List ℕ) AllocError) → IfOk reply (IsRewrittenText monitor)
+        → (line : List ℕ) → reply ≡ Ok line → (P : List ℕ → Type 0) → P line
+        → HoldsOfLine Rewrite monitor P
+    given (Ok made) is line same P holds =
+        let here : line ≡ made = cc in (made, is, subst P here holds)
+    given (Err error) is line same P holds = absurd (cc)
+
 -- what was carried is what a command of one line writes
 line_writes : (command : Command) (text : List ℕ) (monitor : Monitor)
     → Compiles text (accepted monitor) → KeepsRules monitor
@@ -166,6 +183,8 @@ outcome_carried Why text monitor compiles keeps status old new carried =
     reason_writes text monitor compiles keeps status old.taken new.taken carried
 outcome_carried (Drill count seed) text monitor compiles keeps status old new carried =
     line_writes (Drill count seed) text monitor compiles keeps status old.taken new.taken carried
+outcome_carried Rewrite text monitor compiles keeps status old new carried =
+    line_writes Rewrite text monitor compiles keeps status old.taken new.taken carried
 
 -- and its end
 completes_carried : (command : Command) (monitor : Monitor) (status : Status) (old new : Outside)
@@ -181,6 +200,8 @@ completes_carried Why monitor status old new carried no_items no_sink =
     line_completes Why monitor status old.taken new.taken carried no_sink
 completes_carried (Drill count seed) monitor status old new carried no_items no_sink =
     line_completes (Drill count seed) monitor status old.taken new.taken carried no_sink
+completes_carried Rewrite monitor status old new carried no_items no_sink =
+    line_completes Rewrite monitor status old.taken new.taken carried no_sink
 
 -- what completes a text's query completes each query that the text is compiled to
 only_query : (command : Command) (text : List ℕ) (query : Verdict) (status : Status)

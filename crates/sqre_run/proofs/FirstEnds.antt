@@ -6,6 +6,7 @@ use Rattle.sqre_run.specs.Carried.{Carried}
 use Rattle.stream_run.specs.Outside.{Ended, Outside, outside}
 use Rattle.sqre_run.specs.declared.command.Command.{Command}
 use Rattle.sqre_run.specs.declared.command.Command.TheVariants.{Run, Check, Bound, Why, Drill}
+use Rattle.sqre_run.specs.declared.command.Command.TheVariants.{Rewrite}
 use Rattle.sqre_run.specs.declared.command.Engine.{Engine}
 use Rattle.stream_run.specs.declared.status.Status.{Status}
 use Rattle.stream_run.specs.declared.status.Status.TheVariants.{Done, ItemFault, SinkFault, Memory}
@@ -34,6 +35,7 @@ module _ {S W : Type 0} (left : S → Option (List ℕ)) (count : S → ℕ) (ta
   reads_carried Bound monitor status carried leaves = ap count leaves
   reads_carried Why monitor status carried leaves = ap count leaves
   reads_carried (Drill amount seed) monitor status carried leaves = ap count leaves
+  reads_carried Rewrite monitor status carried leaves = ap count leaves
 
   -- and as it was asked for
   pub reads_asked : (command : Command) (asked : Option Command) → Some command ≡ asked

@@ -6,6 +6,7 @@ pub mod OneOutput
 pub mod Outcomes
 pub mod QueryReads
 pub mod Refusals
+pub mod RewrittenQueries
 pub mod SomeMeaning
 pub mod WholeLines
 pub mod Words

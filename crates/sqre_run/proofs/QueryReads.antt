@@ -9,6 +9,7 @@ use Rattle.query_compiler.specs.QueryRead.{ReadsText}
 use Rattle.sqre_run.specs.QueryRead.{ReadsQuery}
 use Rattle.sqre_run.specs.declared.command.Command.{Command}
 use Rattle.sqre_run.specs.declared.command.Command.TheVariants.{Run, Check, Bound, Why, Drill}
+use Rattle.sqre_run.specs.declared.command.Command.TheVariants.{Rewrite}
 use Rattle.stream_run.specs.declared.status.Status.{Status}
 use Rattle.stream_run.specs.declared.status.Status.TheVariants.{Done, Refused, Usage, QueryFault}
 use Rattle.stream_run.specs.declared.status.Status.TheVariants.{ItemFault, SinkFault, Memory, Limit}
@@ -49,6 +50,8 @@ module _ (left left' : Option (List ℕ)) (ends ends' : ℕ)
       reads_line Why monitor status old.taken new.taken carried
   reads_carried (Drill count seed) monitor status old new carried =
       reads_line (Drill count seed) monitor status old.taken new.taken carried
+  reads_carried Rewrite monitor status old new carried =
+      reads_line Rewrite monitor status old.taken new.taken carried
 
   -- and so does a refusal
   pub reads_refusal : (status : Status) (lines : Result (List ℕ) AllocError)

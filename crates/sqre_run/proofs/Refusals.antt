@@ -23,6 +23,7 @@ use Rattle.query_compiler.specs.Stops.{IsRefusedBy}
 use Rattle.sqre_run.specs.Blames.{AreLinesOf, IsReasonOf}
 use Rattle.sqre_run.specs.declared.command.Command.{Command}
 use Rattle.sqre_run.specs.declared.command.Command.TheVariants.{Run, Check, Bound, Why, Drill}
+use Rattle.sqre_run.specs.declared.command.Command.TheVariants.{Rewrite}
 use Rattle.stream_run.specs.declared.status.Status.{Status}
 use Rattle.stream_run.specs.declared.status.Status.TheVariants.{Refused, SinkFault, Memory}
 use Rattle.sqre_run.proofs.Outcomes.{Completes-refused, Outcome-refused}
@@ -82,6 +83,8 @@ outcome_of Why text why compiles status old taken carried =
     reason_refused text why compiles status old.taken taken carried
 outcome_of (Drill count seed) text why compiles status old taken carried =
     line_refused (Drill count seed) text why compiles status old.taken taken carried
+outcome_of Rewrite text why compiles status old taken carried =
+    line_refused Rewrite text why compiles status old.taken taken carried
 
 -- the line of a refusal is its reason where no word shows it
 reason_by_line : (text : List ℕ) (why : Refusal) → (ForbidsTwoReadings why.rule → ⊥)
@@ -95,6 +98,7 @@ by_command Check text why no_word lines are = are
 by_command Bound text why no_word lines are = are
 by_command Why text why no_word lines are = reason_by_line text why no_word lines are
 by_command (Drill count seed) text why no_word lines are = are
+by_command Rewrite text why no_word lines are = are
 
 -- the refusal of a blame and its word are a reason, too
 reason_by_word : (text : List ℕ) (program : Program) (blame : Blame)
@@ -126,6 +130,7 @@ by_blame Bound text program blame file is lines are = are
 by_blame Why text program blame file is lines are =
     reason_by_word text program blame file is lines are
 by_blame (Drill count seed) text program blame file is lines are = are
+by_blame Rewrite text program blame file is lines are = are
 
 -- a text is refused as its query is blamed
 pub blame_compiles : (text : List ℕ) (program : Program) (blame : Blame)
@@ -185,4 +190,6 @@ completes_refused Bound why status lines old new refuses no_sink =
 completes_refused Why why status lines old new refuses no_sink =
     line_completes why status lines old new refuses no_sink
 completes_refused (Drill count seed) why status lines old new refuses no_sink =
+    line_completes why status lines old new refuses no_sink
+completes_refused Rewrite why status lines old new refuses no_sink =
     line_completes why status lines old new refuses no_sink

@@ -7,6 +7,7 @@ use Rattle.std.specs.List.{list_all}
 use Rattle.std.specs.Str.Parse.{digits_value}
 use Rattle.sqre_run.specs.declared.command.Command.{Command}
 use Rattle.sqre_run.specs.declared.command.Command.TheVariants.{Run, Check, Bound, Why, Drill}
+use Rattle.sqre_run.specs.declared.command.Command.TheVariants.{Rewrite}
 use Rattle.sqre_run.specs.declared.command.Engine.TheVariants.{Runner, Slow}
 
 -- the most items of a drill, and the greatest seed
@@ -27,12 +28,13 @@ number_in digits greatest word =
     && nat_le (digits_value 10 word) greatest
     then Some (digits_value 10 word) else None
 
--- `check`, `bound` or `why`
+-- `check`, `bound`, `why` or `rewrite`
 abbrev pub question_of : List ℕ → Option Command
 question_of word =
     if says word (codes "check") then Some Check
     else if says word (codes "bound") then Some Bound
-    else if says word (codes "why") then Some Why else None
+    else if says word (codes "why") then Some Why
+    else if says word (codes "rewrite") then Some Rewrite else None
 
 -- `run` or `slow`
 abbrev pub run_of : List ℕ → Option Command
@@ -53,7 +55,7 @@ drill_of word count seed =
     else None
 
 -- what the words ask for, if they have one of the forms: `check QUERY`, `bound QUERY`, `why QUERY`,
--- `run QUERY ITEMS`, `slow QUERY ITEMS` or `drill QUERY COUNT SEED`
+-- `rewrite QUERY`, `run QUERY ITEMS`, `slow QUERY ITEMS` or `drill QUERY COUNT SEED`
 abbrev pub command_of : List (List ℕ) → Option Command
 command_of (word ∷ query ∷ []) = question_of word
 command_of (word ∷ query ∷ items ∷ []) = run_of word

@@ -5,4 +5,5 @@ pub mod Commands
 pub mod OneLine
 pub mod QueryRead
 pub mod Reasons
+pub mod Rewritten
 pub mod Spoken

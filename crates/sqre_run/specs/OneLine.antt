@@ -1,4 +1,5 @@
--- Statement. What a command that writes one line did, by its status.
+-- Statement. What a command that writes one line did, by its status; and what `rewrite` did, which
+-- writes the text of a query.
 use Rattle.std.specs.Prelude.{◌≡◌, ℕ, List, Option}
 use Rattle.std.specs.Io.KnownBytes.{Appends}
 use Rattle.io_edge.specs.Written.{AppendsSome}
@@ -10,14 +11,17 @@ use Rattle.type_checker.specs.Judged.{Verdict, accepted, refused}
 use Rattle.query_compiler.specs.Compiled.{Compiles, KeepsRulesIfAccepted, KeepsRules}
 use Rattle.stream_run.specs.Drilled.{drilled}
 use Rattle.stream_run.specs.Meanings.{IsMeaning, Meaning}
+use Rattle.sqre_run.specs.Rewritten.{IsRewrittenText}
 use Rattle.sqre_run.specs.declared.command.Command.{Command}
 use Rattle.sqre_run.specs.declared.command.Command.TheVariants.{Run, Check, Bound, Why, Drill}
+use Rattle.sqre_run.specs.declared.command.Command.TheVariants.{Rewrite}
 use Rattle.stream_run.specs.declared.status.Status.{Status}
 use Rattle.stream_run.specs.declared.status.Status.TheVariants.{Done, Refused, Usage, QueryFault}
 use Rattle.stream_run.specs.declared.status.Status.TheVariants.{ItemFault, SinkFault, Memory, Limit}
 
 -- P holds of the line for a query that is accepted: that it is, its bounds, or what a drill reports
--- of it, whatever function gives its values. `run` and `slow` have no such line.
+-- of it, whatever function gives its values; or of the text of some query that it is rewritten as.
+-- `run` and `slow` have no such line.
 abbrev pub HoldsOfLine : Command → Monitor → (List ℕ → Type 0) → Type 0
 HoldsOfLine (Run engine) monitor P = ⊥
 HoldsOfLine Check monitor P = P check_text
@@ -25,6 +29,8 @@ HoldsOfLine Why monitor P = P check_text
 HoldsOfLine Bound monitor P = P (bound_text (places_of monitor.query) (slots_of monitor.query))
 HoldsOfLine (Drill count seed) monitor P =
     (meaning : Meaning) → IsMeaning monitor meaning → P (drilled meaning count seed)
+HoldsOfLine Rewrite monitor P =
+    (text : List ℕ) × IsRewrittenText monitor text × P text
 
 -- P holds of the line for an accepted query, or of the line of its refusal
 abbrev pub HoldsOfReply : Command → Verdict → (List ℕ → Type 0) → Type 0

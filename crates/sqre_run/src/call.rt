@@ -23,7 +23,8 @@ use stream_run::Status;
 /// answers every line of the items, and so does `slow QUERY ITEMS` with the engine that keeps the
 /// whole word. `check QUERY`, `bound QUERY` and `drill QUERY COUNT SEED` write one line.
 /// `why QUERY` writes as `check QUERY` does, and after a refusal for a word with two readings a
-/// shortest such word. The caller opens what the words QUERY and ITEMS name.
+/// shortest such word. `rewrite QUERY` writes the text of a query that means the same. The caller
+/// opens what the words QUERY and ITEMS name.
 pub fn sqre<Q: Source, S: Source, W: Sink>(
     alloc: Global,
     words: &[String],

@@ -33,6 +33,8 @@ pub enum Command {
     Why,
     /// What the query answers to `count` items that the seed draws, summed up.
     Drill { count: u32, seed: u64 },
+    /// The query by the rules that keep its values, as a text.
+    Rewrite,
 }
 
 /// What the words ask for, if they have one of the known forms.
@@ -54,6 +56,7 @@ fn question_of(word: &str) -> Option<Command>
         "check" => Some(Command::Check),
         "bound" => Some(Command::Bound),
         "why" => Some(Command::Why),
+        "rewrite" => Some(Command::Rewrite),
         _ => None,
     }
 }

@@ -3,6 +3,7 @@ ghost use Rattle.std.specs.Prelude.{◌≡◌, Some, IfOk};
 ghost use Rattle.query_model.specs.Bounds.{places_of, slots_of};
 ghost use Rattle.query_model.specs.Monitors.{monitor_of};
 ghost use Rattle.query_model.specs.Queries.{plain_of};
+ghost use Rattle.query_compiler.specs.Compiled.{KeepsRules};
 ghost use Rattle.report_writer.specs.Texts.{bound_text};
 ghost use Rattle.sqre_run.specs.Call.{LeavesItems};
 ghost use Rattle.sqre_run.specs.Carried.{Carried};
@@ -12,6 +13,7 @@ ghost use Rattle.stream_run.specs.Outside.{outside};
 
 use crate::command::Command;
 use crate::drill_engine::drill_query;
+use crate::rewritten_text::rewritten_text;
 use crate::run_engine::run_query;
 use io_edge::{Sink, Source};
 use language_base::Bytes;
@@ -29,7 +31,8 @@ pub fn carry_out<S: Source, W: Sink>(
     items: &mut S,
     out: &mut W,
 ) -> Status
-    requires { IsDrillable checked.now.layout }
+    requires drillable { IsDrillable checked.now.layout }
+    requires keeps { KeepsRules (monitor_of checked.now) }
     ensures carried { let at = outside S.left S.ends W.taken in
         Carried command (monitor_of checked.now) result (at items.old out.old)
         (at items.new out.new) }
@@ -43,6 +46,7 @@ pub fn carry_out<S: Source, W: Sink>(
         Command::Check | Command::Why => report(check_text(alloc), out),
         Command::Bound => report(bound_line(alloc, checked), out),
         Command::Drill { count, seed } => report(drill_query(alloc, checked, count, seed), out),
+        Command::Rewrite => report(rewritten_text(alloc, checked), out),
     }
 }
 

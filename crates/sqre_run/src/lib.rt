@@ -8,6 +8,7 @@ mod drill_engine;
 mod engine;
 mod laws;
 mod refusal;
+mod rewritten_text;
 mod room;
 mod run_engine;
 

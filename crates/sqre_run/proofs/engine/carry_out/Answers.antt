@@ -1,6 +1,8 @@
 use Rattle.std.proofs.Common.{inl, inr}
 use Rattle.query_model.specs.Monitors.{monitor_of}
-use Rattle.sqre_run.proofs.Commands.{reported_bound, reported_check, reported_drill, reported_why}
+use Rattle.sqre_run.proofs.Commands.{reported_bound, reported_check, reported_drill}
+use Rattle.sqre_run.proofs.Commands.{reported_rewrite, reported_why}
+use Rattle.sqre_run.proofs.RewrittenQueries.{some_text}
 use Rattle.sqre_run.proofs.engine.carry_out.Goals as goal
 
 pub returns-in-Check-clause-carried : goal.returns-in-Check-clause-carried
@@ -22,3 +24,10 @@ returns-in-Drill-clause-carried g c =
     rw c.in-Drill.is
     (reported_drill c.in-Drill.count c.in-Drill.seed (monitor_of c.args.checked.now) _
     c.drill_query.ensures _ _ _ c.report-in-Drill.ensures.reported)
+
+pub returns-in-Rewrite-clause-carried : goal.returns-in-Rewrite-clause-carried
+returns-in-Rewrite-clause-carried g c =
+    let monitor = monitor_of c.args.checked.now in
+    rw c.in-Rewrite.is
+    (reported_rewrite monitor (some_text monitor c.requires.keeps) _ c.rewritten_text.ensures _ _ _
+    c.report-in-Rewrite.ensures.reported)
