@@ -37,7 +37,11 @@ pub some_text : (monitor : Monitor) → KeepsRules monitor
     → (text : List ℕ) × IsRewrittenText monitor text
 some_text monitor keeps = (
   text_of monitor.layout (rewritten monitor.query),
-  record { query = rewritten monitor.query; rewritten = is_rewritten monitor keeps; written = refl },
+  record {
+    query = rewritten monitor.query;
+    rewritten = is_rewritten monitor keeps;
+    written = refl;
+  },
 )
 
 -- the text that was made of one, on the same stream
