@@ -1,5 +1,5 @@
-//! Calls of `query_rewrite`, `query_text`, `key_shards` and `runner_snapshot` with ample memory.
-//! They stand here because a crate with tests is proved twice.
+//! Calls of `query_rewrite`, `query_text`, `key_shards`, `key_routes` and `runner_snapshot` with
+//! ample memory. They stand here because a crate with tests is proved twice.
 #![tactic(auto)]
 
 #[cfg(test)]

@@ -1,6 +1,8 @@
-// What no clause says: that with ample memory a collect has the query of a shard and a mask.
+// What no clause says: that with ample memory a collect has the query of a shard and a mask. And the
+// homes of two keys, which no later release may give another.
 use crate::assertions::same;
 use crate::compilation::compiled;
+use key_routes::shard_of_key;
 use key_shards::{mask_of, part_of};
 use predicates::Pred;
 use query_model::{Query, Shape};
@@ -10,6 +12,10 @@ use std::test::Fail;
 const BY_KEY: &[u8] = b"stream(plain, col(k, text), col(a, int))\n\
     let(sum, iter(atom(any, a), 0, add(x, y)))\n\
     main(collect(k, lt(a, 0), star(item(ge(a, -1))), sum))\n";
+
+const KEY: &[u8] = b"foobar";
+
+const NO_BYTES: &[u8] = b"";
 
 const SUM: &[u8] = b"stream(plain, col(a, int))\nmain(iter(atom(any, a), 0, add(x, y)))\n";
 
@@ -48,5 +54,12 @@ fn another_query_has_neither(rt: HostRuntime) -> Result<(), Fail> {
     let checked = compiled(alloc, SUM)?;
     same(&rt, part_of(&checked, alloc)?.is_none(), true);
     same(&rt, mask_of(&checked, alloc)?.is_none(), true);
+    Ok(())
+}
+
+#[test]
+fn keys_have_homes(rt: HostRuntime) -> Result<(), Fail> {
+    same(&rt, shard_of_key(KEY, 1000), 233);
+    same(&rt, shard_of_key(NO_BYTES, 1000), 641);
     Ok(())
 }
