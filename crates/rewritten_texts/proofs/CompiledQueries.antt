@@ -15,7 +15,9 @@ use Rattle.query_model.specs.Queries.{Qre}
 use Rattle.query_model.specs.Rules.{free}
 use Rattle.query_model.specs.Sizes.{HasFewCells, IsSmall, max_slots, predicates_of}
 use Rattle.query_parser.specs.Reading.{IsFileOf}
+use Rattle.query_parser.specs.TreeReading.{AreShallow}
 use Rattle.query_parser.proofs.IsFile.{is_file}
+use Rattle.query_parser.proofs.Passes.{shallow_readable}
 use Rattle.query_resolver.specs.Layouts.{layout_of}
 use Rattle.query_resolver.specs.Measures.{measured}
 use Rattle.query_resolver.specs.Nodes.{places_of}
@@ -92,7 +94,13 @@ module _ (text : List ℕ) (query : Qre) (program : Program)
     passed = has_passed program query is
 
     said : IsSaidFile program
-    said = file_said program (is_file text (program_terms program) (bytes_of text bytes) file)
+    said =
+        let has = file.has.has in
+        let shallow : AreShallow text has.trees =
+        record { has = has.has; not_deep = has.not_deep } in
+        file_said program (is_file text has.trees (program_terms program) (bytes_of text bytes)
+        (shallow_readable text has.trees shallow)
+        (record { say = has.say; fit = file.has.fit; within = file.within }))
 
     of_parts : IsResolved layout.columns (unfolded program) query
     of_parts = of_step (IsResolved layout.columns (unfolded program))
