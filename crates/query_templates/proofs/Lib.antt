@@ -4,8 +4,12 @@ mod Defining
 mod Expanding
 mod Files
 mod Firsts
+mod Judging
 mod Lists
 mod Making
 mod Measuring
 mod Singles
+mod Stood
+mod Taking
+mod Tearing
 mod Using

@@ -12,8 +12,10 @@ use Rattle.query_templates.specs.Excess.{excess, first_excess}
 use Rattle.query_templates.specs.Expansion.{expanded}
 use Rattle.query_templates.specs.Extents.{extent_of}
 use Rattle.query_templates.specs.Lists.{count_of}
+use Rattle.query_templates.specs.Misfits.{misfit_in}
 use Rattle.query_templates.specs.Names.{is_among, is_language_name}
 use Rattle.query_templates.specs.Refusals.{first_of, refused}
+use Rattle.query_templates.specs.Standings.{torn}
 use Rattle.query_templates.specs.Templates.{Template, template_at}
 use Rattle.query_templates.specs.Uses.{first_wrong_use, taken}
 
@@ -68,18 +70,29 @@ wrong_names text templates known (name ∷ names) = first_of
     (wrong_names text templates (known ++ name ∷ []) names)
 
 -- what is wrong with a term that stands at a place, after so many bytes: a use in it, or else how
--- large it would be
+-- large it would be, or else the kind of an argument
 abbrev pub term_refusal : List ℕ → List Template → Option (List Span) → ℕ → Trees → Span
     → Option TemplateRefusal
 term_refusal text templates parameters used terms place = first_of
     (first_wrong_use text templates parameters terms)
     (first_of (first_excess text templates terms)
-    (excess used (extent_of (expanded text templates terms)) place))
+    (first_of (excess used (extent_of (expanded text templates terms)) place)
+    (misfit_in text templates parameters place terms)))
 
--- what is wrong with a definition: its form, or a name, or its body
+-- the template of a definition after others
+abbrev pub template_of : List ℕ → List Template → Definition → Span → Template
+template_of text templates definition place = record {
+  name = definition.name;
+  parameters = definition.parameters;
+  body = expanded text templates definition.body;
+  place = place;
+}
+
+-- what is wrong with a definition: its form, or a name, or its body, or a parameter in it
 abbrev pub definition_refusal : List ℕ → List Template → ℕ → Option Definition → Span
     → Option TemplateRefusal
 definition_refusal text templates used None place = refused Form place
 definition_refusal text templates used (Some definition) place = first_of
     (wrong_names text templates [] (definition.name ∷ definition.parameters))
-    (term_refusal text templates (Some definition.parameters) used definition.body place)
+    (first_of (term_refusal text templates (Some definition.parameters) used definition.body place)
+    (torn text (template_of text templates definition place)))

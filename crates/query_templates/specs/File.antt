@@ -6,21 +6,12 @@ use Rattle.language_base.specs.declared.span.Span.{Span}
 use Rattle.query_trees.specs.Trees.{Trees, none, leaf, call}
 use Rattle.query_templates.specs.declared.refusal.TemplateRefusal.{TemplateRefusal}
 use Rattle.query_templates.specs.Definitions.{Definition, definition_in, definition_refusal}
-use Rattle.query_templates.specs.Definitions.{term_refusal}
+use Rattle.query_templates.specs.Definitions.{template_of, term_refusal}
 use Rattle.query_templates.specs.Expansion.{expanded}
 use Rattle.query_templates.specs.Extents.{extent_of}
 use Rattle.query_templates.specs.Names.{is_named}
 use Rattle.query_templates.specs.Refusals.{first_of}
 use Rattle.query_templates.specs.Templates.{Template}
-
--- the template of a definition after others
-abbrev pub template_of : List ℕ → List Template → Definition → Span → Template
-template_of text templates definition place = record {
-  name = definition.name;
-  parameters = definition.parameters;
-  body = expanded text templates definition.body;
-  place = place;
-}
 
 -- the templates after one definition more
 abbrev pub with_definition : List ℕ → List Template → Option Definition → Span → List Template

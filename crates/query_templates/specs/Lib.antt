@@ -4,12 +4,15 @@ pub mod Expansion
 pub mod Extents
 pub mod File
 pub mod Fronts
+pub mod Kinds
 pub mod Lists
 pub mod Made
 pub mod Measured
+pub mod Misfits
 pub mod Names
 pub mod Plain
 pub mod Refusals
 pub mod Shown
+pub mod Standings
 pub mod Templates
 pub mod Uses

@@ -9,6 +9,7 @@ use Rattle.query_templates.specs.declared.term.Made.{Made}
 use Rattle.query_templates.specs.Definitions.{Definition, definition_refusal, term_refusal}
 use Rattle.query_templates.specs.Expansion.{expanded}
 use Rattle.query_templates.specs.File.{used_after, used_with, with_definition}
+use Rattle.query_templates.specs.Misfits.{misfit_in}
 use Rattle.query_templates.specs.Plain.{plain_template}
 use Rattle.query_templates.specs.Templates.{Template}
 
@@ -18,6 +19,13 @@ pub record IsMade (text : List ℕ) (templates : List Template) (parameters : Op
   pub right : term_refusal text templates parameters used terms place ≡ None
   pub is : tree_before made.tree none ≡ expanded text templates terms
   pub used_is : made.used ≡ used_after text templates used terms
+
+-- all arguments in terms may stand where their parameters do, and this is what the terms are with
+-- their uses replaced
+pub record AreExpanded (text : List ℕ) (templates : List Template)
+    (parameters : Option (List Span)) (place : Span) (terms made : Trees) : Type 0 where
+  pub fit : misfit_in text templates parameters place terms ≡ None
+  pub are : made ≡ expanded text templates terms
 
 -- a heading with a body
 abbrev pub definition_of : Heading → Trees → Definition

@@ -1,6 +1,9 @@
--- Statement. Templates as plain ones, without where they lie in memory.
-use Rattle.std.specs.Prelude.{List, map}
+-- Statement. Templates as plain ones, and standings as plain lists, without where they lie in
+-- memory.
+use Rattle.std.specs.Prelude.{List, Vec, map}
+use Rattle.std.specs.declared.alloc.Global.{Global}
 use Rattle.query_trees.specs.Trees.{none, tree_before}
+use Rattle.query_templates.specs.declared.standing.Standing.{Standing}
 use Rattle.query_templates.specs.declared.template.Template as raw
 use Rattle.query_templates.specs.Templates.{Template}
 
@@ -14,3 +17,6 @@ plain_template template = record {
 
 abbrev pub templates_of : List raw.Template → List Template
 templates_of templates = map plain_template templates
+
+abbrev pub plain_standings : List (Vec Standing Global) → List (List Standing)
+plain_standings found = map (λ (known : Vec Standing Global). known.items) found

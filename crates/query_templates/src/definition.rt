@@ -15,6 +15,7 @@ use crate::refusal::refusal;
 use crate::stop::refused;
 use crate::template::Template;
 use crate::term::{Made, make};
+use crate::torn::torn;
 use crate::uses::taken;
 use crate::{TemplateCause, TemplateRefusal, TemplateStop};
 use language_base::Span;
@@ -81,7 +82,10 @@ fn defined_as(
     let made = make(alloc, body, text, templates, Some(parameters), used, place)?;
     let used = made.used;
     let template = template_of(alloc, heading, made, place)?;
-    Ok(Defined { template, used })
+    match torn(alloc, text, &template)? {
+        Some(refusal) => Err(TemplateStop::Refused(refusal)),
+        None => Ok(Defined { template, used }),
+    }
 }
 
 fn template_of(

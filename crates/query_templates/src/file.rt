@@ -12,6 +12,7 @@ use crate::TemplateStop;
 use crate::copies::copies_of;
 use crate::definition::define;
 use crate::names::is_named;
+use crate::place::place_of;
 use crate::template::Template;
 use crate::term::make;
 use language_base::Span;
@@ -103,13 +104,4 @@ fn plain_of(
         plain.push(made.tree).map_err(AllocError::from)?;
     }
     Ok(plain)
-}
-
-fn place_of(tree: &Tree) -> Span
-    ensures { result ≡ place_of tree.now }
-{
-    match tree {
-        Tree::Leaf(token) => token.span,
-        Tree::Call(_, _, place) => *place,
-    }
 }

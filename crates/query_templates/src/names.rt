@@ -5,8 +5,8 @@ ghost use Rattle.query_templates.specs.Names.{is_among, is_named, part_at, same_
 
 use language_base::Span;
 
-// The bytes at a place, if the text has it.
-fn part_at(text: &[u8], place: Span) -> Option<&[u8]>
+/// The bytes at a place, if the text has it.
+pub(crate) fn part_at(text: &[u8], place: Span) -> Option<&[u8]>
     ensures { option_copied result ≡ part_at text.now place }
 {
     let (from, to) = (place.from as usize, place.to as usize);

@@ -26,6 +26,10 @@ pub enum TemplateCause {
     Large,
     /// With uses replaced there would be too many levels.
     Deep,
+    /// A parameter stands where no one argument may stand for it and at this place.
+    TwoKinds(Span),
+    /// An argument may not stand at this place of its parameter.
+    OtherKind(Span),
 }
 
 /// The first cause, and the place of the term or the word that it is about.

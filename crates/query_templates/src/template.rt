@@ -39,7 +39,8 @@ pub(crate) fn template_at<'t>(
     None
 }
 
-fn is_within(inner: Span, outer: Span) -> bool
+/// Whether a place lies within another.
+pub(crate) fn is_within(inner: Span, outer: Span) -> bool
     ensures { result ≡ is_within inner outer }
 {
     outer.from <= inner.from && inner.to <= outer.to

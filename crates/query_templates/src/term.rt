@@ -42,6 +42,6 @@ pub(crate) fn make(
     }
     let extent = measured(alloc, tree, text, templates)?;
     let used = admitted(used, extent, place)?;
-    let tree = expanded(alloc, tree, text, templates)?;
+    let tree = expanded(alloc, tree, text, templates, parameters, place)?;
     Ok(Made { tree, used })
 }
