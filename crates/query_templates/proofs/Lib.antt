@@ -8,8 +8,11 @@ mod Judging
 mod Lists
 mod Making
 mod Measuring
+mod NodePlaces
+mod OriginPlaces
 mod Singles
 mod Stood
 mod Taking
 mod Tearing
+mod Tracing
 mod Using

@@ -7,6 +7,7 @@ use Rattle.query_templates.specs.declared.file.Front.{Front}
 use Rattle.query_templates.specs.File.{plain_after, refusal_after, refused_after}
 use Rattle.query_templates.specs.Expansion.{expanded}
 use Rattle.query_templates.specs.Names.{is_named}
+use Rattle.query_templates.specs.Origins.{origins_after, origins_of}
 use Rattle.query_templates.specs.Plain.{templates_of}
 
 -- the place of a term
@@ -42,3 +43,5 @@ pub record AreFront (text : List ℕ) (terms : Trees) (front : Front) : Type 0 w
   pub refusal : refusal_after text [] 0 terms
       ≡ refused_after text (templates_of front.templates.items) front.used
       (trees_of front.rest.now)
+  pub origins : origins_after text [] terms
+      ≡ origins_of text (templates_of front.templates.items) (trees_of front.rest.now)

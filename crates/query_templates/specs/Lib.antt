@@ -1,3 +1,4 @@
+pub mod Appended
 pub mod Definitions
 pub mod Excess
 pub mod Expansion
@@ -10,6 +11,7 @@ pub mod Made
 pub mod Measured
 pub mod Misfits
 pub mod Names
+pub mod Origins
 pub mod Plain
 pub mod Refusals
 pub mod Shown

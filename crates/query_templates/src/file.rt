@@ -35,13 +35,17 @@ pub fn expanded_file(alloc: Global, text: &[u8], trees: &[Tree]) -> Result<Vec<T
 
 /// The templates of the definitions in front, the bytes that they use, and the other terms.
 #[derive(Drop)]
-struct Front<'t> {
-    templates: Vec<Template>,
-    used: u32,
-    rest: &'t [Tree],
+pub(crate) struct Front<'t> {
+    pub(crate) templates: Vec<Template>,
+    pub(crate) used: u32,
+    pub(crate) rest: &'t [Tree],
 }
 
-fn front_of<'t>(alloc: Global, text: &[u8], trees: &'t [Tree]) -> Result<Front<'t>, TemplateStop>
+pub(crate) fn front_of<'t>(
+    alloc: Global,
+    text: &[u8],
+    trees: &'t [Tree],
+) -> Result<Front<'t>, TemplateStop>
     ensures front { IfOk result (AreFront text.now (trees_of trees.now)) }
     ensures stopped { IfErr result (IsStopAt (first_refusal text.now (trees_of trees.now))) }
 {

@@ -71,8 +71,8 @@ fn torn_from(known: &[Standing], one: Standing) -> Option<TemplateRefusal>
     None
 }
 
-// Whether another one makes no difference, since one of its parameter stands at such a place. That it
-// says so whenever it could is not stated: it would only spare more comparisons.
+// Whether another one makes no difference, since one of its parameter stands at such a place. That
+// it says so whenever it could is not stated: it would only spare more comparisons.
 fn is_known(known: &[Standing], one: Standing) -> bool
     ensures { OnTrue result ((other : Standing) →
         torn_from (known.now ++ one ∷ []) other ≡ torn_from known.now other) }

@@ -10,12 +10,14 @@ use Rattle.query_templates.specs.Definitions.{definition_in, definition_refusal}
 use Rattle.query_templates.specs.File.{plain_after, refusal_after, refused_after, used_with, with_definition}
 use Rattle.query_templates.specs.Expansion.{expanded}
 use Rattle.query_templates.specs.Fronts.{IsOther}
+use Rattle.query_templates.specs.Origins.{origins_after, origins_of}
 use Rattle.query_templates.specs.Plain.{templates_of}
 use Rattle.query_templates.specs.Refusals.{IsStopAt, first_of}
 use Rattle.query_templates.specs.Templates.{Template}
 use Rattle.query_templates.proofs.Files.{plain_next, plain_other, refusal_end, refusal_next, refusal_other}
 use Rattle.query_templates.proofs.Files.{templates_pushed}
 use Rattle.query_templates.proofs.Firsts.{first_stops}
+use Rattle.query_templates.proofs.Tracing.{origins_next, origins_other}
 use Rattle.query_templates.proofs.file.front_of.Goals as goal
 use Rattle.query_templates.proofs.file.front_of.Goals.{in_default}
 use Rattle.query_templates.proofs.file.front_of.Goals.{in-len1-up+in_default-definition_at}
@@ -86,6 +88,10 @@ definitions-preserved c =
           (used_with text templates used found) (trees_of others)) (sym same)
           ∙ ap (λ (u : ℕ). refusal_after text (templates_of c.push.new.self.items) u
           (trees_of others)) (sym one.used_is);
+      origins = c.definitions.invariant.origins
+          ∙ ap (λ (l : List Tree). origins_after text templates (trees_of l)) apart
+          ∙ origins_next text templates first others inner place c.in-Some.ensures
+          ∙ ap (λ (t : List Template). origins_after text t (trees_of others)) (sym same);
     }
 
 -- nothing is left
@@ -94,7 +100,8 @@ front_end : (text : List ℕ) (templates : List Template) (used : ℕ) (rest : L
     → (plain_after text templates (trees_of rest) ≡ expanded text templates (trees_of rest))
     × (refusal_after text templates used (trees_of rest)
     ≡ refused_after text templates used (trees_of rest))
-front_end text templates used [] few = (refl, refusal_end text templates used)
+    × (origins_after text templates (trees_of rest) ≡ origins_of text templates (trees_of rest))
+front_end text templates used [] few = (refl, refusal_end text templates used, refl)
 front_end text templates used (first ∷ others) few = absurd (omega arith)
 
 -- another term is next
@@ -103,11 +110,13 @@ front_other : (text : List ℕ) (templates : List Template) (used : ℕ) (rest :
     → (plain_after text templates (trees_of rest) ≡ expanded text templates (trees_of rest))
     × (refusal_after text templates used (trees_of rest)
     ≡ refused_after text templates used (trees_of rest))
+    × (origins_after text templates (trees_of rest) ≡ origins_of text templates (trees_of rest))
 front_other text templates used [] first some is other = absurd (omega arith)
 front_other text templates used (head ∷ others) first some is other =
     let here : IsOther text head = subst (IsOther text) is other in (
       plain_other text templates head others here,
       refusal_other text templates used head others here,
+      origins_other text templates head others here,
     )
 
 pub returns-clause-front : goal.returns-clause-front
@@ -122,6 +131,7 @@ returns-clause-front c =
           record {
             plain = c.definitions.invariant.plain ∙ both.0;
             refusal = c.definitions.invariant.refusal ∙ both.1;
+            origins = c.definitions.invariant.origins ∙ both.2;
           }
       | in-len1-up+in_default-definition_at w ↦
           let both = front_other text templates used rest w.first-item.result (omega arith)
@@ -129,5 +139,6 @@ returns-clause-front c =
           record {
             plain = c.definitions.invariant.plain ∙ both.0;
             refusal = c.definitions.invariant.refusal ∙ both.1;
+            origins = c.definitions.invariant.origins ∙ both.2;
           }
     ]
