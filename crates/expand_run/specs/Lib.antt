@@ -1,0 +1,11 @@
+pub mod Answers
+pub mod Asides
+pub mod Call
+pub mod Commands
+pub mod Explanations
+pub mod Marks
+pub mod OriginLines
+pub mod OriginStops
+pub mod RefusalTexts
+pub mod Replies
+pub mod Statuses
