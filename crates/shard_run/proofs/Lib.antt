@@ -1,0 +1,9 @@
+pub mod Judging
+pub mod Lines
+pub mod Outcomes
+pub mod Replying
+pub mod Sent
+pub mod Starting
+pub mod Turns
+pub mod Words
+pub mod Writing
