@@ -11,7 +11,9 @@ test_release() {
     (with_rt "$top/.ci/build" && with_rt "$top/.ci/release") 2>/dev/null
     holds 'the release is what was built' with_rt "$top/.ci/release" --check >/dev/null 2>&1
     make_program release >"$room/kit/sqre"
-    make_explanation release >"$room/kit/explain"
+    for name in explain expand shard; do
+        make_explanation release >"$room/kit/$name"
+    done
     fresh="$room/a folder/clone"
     make_checkout "$fresh"
     echo 'bad' >"$room/bad.sqre"
@@ -55,7 +57,7 @@ status 0' "$(answer with_rt "$fresh/sqre" which)"
 status 0' "$(answer without_rt "$fresh/sqre" which)"
     forget
     same 'it is proved all the same' 'status 0' "$(answer with_rt "$fresh/sqre" --prove)"
-    same 'it is proved all the same: what rt was asked' 'ci low sqre aside explain;' "$(asked)"
+    same 'it is proved all the same: what rt was asked' 'ci low sqre aside explain expand shard;' "$(asked)"
     if [ "$(awk '/^MemAvailable:/ { print int($2 / 4000000) }' /proc/meminfo)" -ge "$(nproc)" ]; then
         same 'crates are proved side by side' "$(nproc)" "$(sed -n 's/^beside //p' "$RT_LOG")"
     else
@@ -179,8 +181,11 @@ test_install() {
     mkdir -p "$folder"
     ln -s "$fresh/sqre" "$folder/sqre"
     cp "$fresh/sqre" "$room/kept"
-    same 'install' "installed $folder/sqre-explain
-installed $folder/sqre-program
+    same 'install' "installed $folder/sqre-program
+installed $folder/sqre-explain
+installed $folder/sqre-expand
+installed $folder/sqre-shard
+installed $folder/sqre-templates
 installed $folder/sqre
 status 0" "$(answer without_rt "$fresh/sqre" --install "$folder")"
     holds 'install over a link leaves the script' cmp -s "$room/kept" "$fresh/sqre"
@@ -201,8 +206,11 @@ status 1' "$(answer without_rt "$folder/sqre" check "$room/bad.sqre")"
     same 'what is installed: its explanation' "$room/bad.sqre is explained, release" "$(cat "$room/errors")"
     same 'what is installed: version' "$version" "$(without_rt "$folder/sqre" --version)"
     same 'what is installed by a link' 'release' "$(ln -s "$folder/sqre" "$room/linked" && without_rt "$room/linked" which)"
-    same 'installed again' "installed $room/anew/sqre-explain
-installed $room/anew/sqre-program
+    same 'installed again' "installed $room/anew/sqre-program
+installed $room/anew/sqre-explain
+installed $room/anew/sqre-expand
+installed $room/anew/sqre-shard
+installed $room/anew/sqre-templates
 installed $room/anew/sqre
 status 0" "$(answer without_rt "$folder/sqre" --install "$room/anew")"
     holds 'what is installed again is the same' cmp -s "$folder/sqre" "$room/anew/sqre"
