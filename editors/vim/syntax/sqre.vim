@@ -4,7 +4,7 @@ if exists('b:current_syntax')
 endif
 syntax match sqreName "\<\h\w*\>"
 syntax match sqreNumber "[+-]\?\<\d\+\>"
-syntax match sqreFile "\<\%(stream\|let\|main\)\ze\_s*("
+syntax match sqreFile "\<\%(stream\|let\|main\|def\|include\)\ze\_s*("
 syntax match sqreColumn "\<\%(col\|fixed\)\ze\_s*("
 syntax match sqreColumn "\%((\_s*\)\@<=\<\%(plain\|header\)\>"
 syntax match sqreColumn "\<\%(int\|text\)\ze\_s*)"
