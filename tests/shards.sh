@@ -86,5 +86,6 @@ has 'a query that is no collect: the sentence' 'only where its main query is a c
 printf '%s\n' 'def(sum(E), iter(atom(any, E), 0, add(x, y)))' 'stream(plain, col(a, int))' 'main(sum(a))' >"$room/query"
 same 'a template that is no collect' 'refused whole 78..84
 status 1' "$(sqre mask "$room/query"; echo "status $?")"
+has 'a template that is no collect: the sentence' 'only where its main query is a collect' "$(cat "$room/errors")"
 same 'no shards' 'status 2' "$(sqre route rainfall/query.sqre 0 /dev/null; echo "status $?")"
 tell
