@@ -38,6 +38,32 @@ impl<'q> Runner<'q> {
         })
     }
 
+    /// A runner that goes on from where another stood.
+    pub fn resume(checked: &'q Checked, progress: Progress) -> Runner<'q>
+        ensures { result
+            ≡ record { checked = checked.entry; progress = progress; failed = false } }
+    {
+        Runner {
+            checked,
+            progress,
+            failed: false,
+        }
+    }
+
+    /// The query that it runs.
+    pub fn checked(&self) -> &'q Checked
+        ensures { result.now ≡ self.now.checked.now }
+    {
+        self.checked
+    }
+
+    /// How far it has come, if it is not lost.
+    pub fn progress(&self) -> &Progress
+        ensures { result.now ≡ self.now.progress }
+    {
+        &self.progress
+    }
+
     /// Puts the runner back before the first item, in place.
     pub(crate) fn begin_anew(&mut self, alloc: Global)
         requires sound { IsSoundly self.old }
