@@ -4,6 +4,4 @@ pub mod Outcomes
 pub mod Replying
 pub mod Sent
 pub mod Starting
-pub mod Turns
 pub mod Words
-pub mod Writing

@@ -1,14 +1,15 @@
 -- What lines are read to, and what is written of them, with one line more.
 use Rattle.std.proofs.Common.{◌≡◌, ◌++◌, Bool, true, false, cond, List, [], ◌∷◌, None}
-use Rattle.std.proofs.Common.{Result, Ok, Err, IfOk, OnOk, refl, sym, ap, ◌∙◌}
+use Rattle.std.proofs.Common.{ℕ, Result, Ok, Err, IfOk, Bor, refl, sym, ap, ◌∙◌}
 use Rattle.std.proofs.lemmas.List.{map-append}
 use Rattle.std.specs.List.{flat_map}
 use Rattle.io_edge.specs.Lines.{Shown}
 use Rattle.item_schema.specs.Layout.{Layout}
 use Rattle.item_schema.specs.declared.column.Column.{Column}
 use Rattle.stream_run.specs.Output.{is_header, read_of}
+use Rattle.stream_run.specs.Replying.{Replies}
 use Rattle.stream_run.proofs.LineItems.{flat_map-push, read_after}
-use Rattle.shard_run.specs.Routers.{IsRouterAfter, read_by, routing_of}
+use Rattle.shard_run.specs.Routers.{IsRouterAfter, SaysRoutes, StandsAfter, read_by, routing_of}
 use Rattle.shard_run.specs.Routes.{Read, Routing, line_route, reads_of, routes}
 use Rattle.shard_run.specs.Texts.{route_text}
 use Rattle.shard_run.specs.declared.router.LineRoute.{LineRoute}
@@ -42,29 +43,10 @@ routes-push routing shown line =
     ∙ flat_map-push (λ read. route_text (line_route routing read)) (reads_of routing.layout shown)
     (read_after routing.layout shown line)
 
--- of no lines nothing is written
-nothing_with : (columns : List Column) (has_header : Bool)
-    → reads_of (record { has_header = has_header; columns = columns }) [] ≡ []
-nothing_with columns true = refl
-nothing_with columns false = refl
-
-pub routes_none : (routing : Routing) → routes routing [] ≡ []
-routes_none routing =
-    ap (flat_map (λ read. route_text (line_route routing read)))
-    (nothing_with routing.layout.columns routing.layout.has_header)
-
 -- a router goes from one line to the next
 pub record Moves (line : Shown) (route : LineRoute) (old new : Router) : Type 0 where
   pub route_is : route ≡ line_route (routing_of old) (read_by old line)
   pub new_is : new ≡ record old { awaits_header = false }
-
--- so it does where it says where a line goes
-pub moves_by : {E : Type 0} (line : Shown) (result : Result LineRoute E) (old new : Router)
-    → IfOk result (λ route. route ≡ line_route (routing_of old) (read_by old line))
-    → OnOk result (new ≡ record old { awaits_header = false })
-    → IfOk result (λ went. Moves line went old new)
-moves_by line (Ok went) old new is after = record { route_is = is; new_is = after }
-moves_by line (Err error) old new is after = tt
 
 -- what it reads is what the line is read to
 reads_by : (routing : Routing) (shown : List Shown) (line : Shown) (router : Router)
@@ -98,3 +80,17 @@ module _ (routing : Routing) (shown : List Shown) (line : Shown) (route : LineRo
       routing_is = ap routing_of moves.new_is ∙ after.routing_is;
       header = ap (λ (r : Router). r.awaits_header) moves.new_is ∙ later routing.layout shown line;
     }
+
+-- a router that goes from one line to the next, and says where this one goes, replies to it
+pub replies : {E : Type 0} (line : Shown) (route : LineRoute) (result : Result (Bor (List ℕ)) E)
+    (old new : Router) → Moves line route old new → IfOk result (λ text. text.now ≡ route_text route)
+    → IfOk result (λ text. Replies StandsAfter SaysRoutes line text.now old new)
+replies line route (Ok text) old new moves is = record {
+  stands = λ first before after routing begins.
+      router_after routing before line route old new (after routing begins) moves;
+  says = λ first before so_far after said routing begins.
+      ap (λ (t : List ℕ). t ++ text.now) (said routing begins)
+      ∙ ap (λ (r : List ℕ). routes routing before ++ r) is
+      ∙ routes_more routing before line route old new (after routing begins) moves;
+}
+replies line route (Err error) old new moves is = tt

@@ -10,6 +10,7 @@ use Rattle.key_shards.specs.Collections.{Collection}
 use Rattle.query_compiler.specs.QueryRead.{ReadsNone, max_read}
 use Rattle.query_model.specs.Monitors.{Monitor}
 use Rattle.stream_run.specs.Outside.{Outside}
+use Rattle.stream_run.specs.Written.{Refuses, Reported}
 use Rattle.stream_run.specs.declared.status.Status.{Status}
 use Rattle.stream_run.specs.declared.status.Status.TheVariants.{Done, Refused, Usage, QueryFault}
 use Rattle.stream_run.specs.declared.status.Status.TheVariants.{ItemFault, SinkFault, Memory, Limit}
@@ -29,12 +30,14 @@ pub replied_piece : (piece : Piece) (monitor : Monitor) (place : Span) (text : L
     (old : Outside) (taken : Option (List ℕ)) → IfOk reply (IsReplyFor piece monitor place)
     → Replied status reply old.taken taken
     → Outcome (asks.Text piece) text status old (record old { taken = taken })
-replied_piece piece monitor place text accepted Done (Ok (Text bytes)) old taken (given, is, same)
-    replied =
-    carries monitor place given accepted is (refl, subst (Appends old.taken taken) same replied)
+replied_piece piece monitor place text accepted Done (Ok (Text bytes)) old taken
+    (given, is, made, same) replied =
+    carries monitor place given accepted is
+    (made, (refl, subst (Appends old.taken taken) same replied))
 replied_piece piece monitor place text accepted SinkFault (Ok (Text bytes)) old taken
-    (given, is, same) replied =
-    carries monitor place given accepted is (refl, subst (AppendsSome old.taken taken) same replied)
+    (given, is, made, same) replied =
+    carries monitor place given accepted is
+    (made, (refl, subst (AppendsSome old.taken taken) same replied))
 replied_piece piece monitor place text accepted Refused (Ok (Refusal line)) old taken is replied =
     refuses line (is text accepted) (refl, replied)
 replied_piece piece monitor place text accepted SinkFault (Ok (Refusal line)) old taken is replied =
@@ -65,7 +68,7 @@ replied_refusal command text line refusal status reply old taken is replied = ab
 ends_otherwise : (command : Command) (monitor : Monitor) (given : Collection) (old new : Outside)
     → (Carries command monitor given Usage old new → ⊥)
     × (Carries command monitor given QueryFault old new → ⊥)
-ends_otherwise (asks.Text piece) monitor given old new = (λ ended. ended, λ ended. ended)
+ends_otherwise (asks.Text piece) monitor given old new = (λ ended. ended.1, λ ended. ended.1)
 ends_otherwise (asks.Route shards) monitor given old new = (λ ended. ended, λ ended. ended)
 
 pub no_usage : (command : Command) (text : List ℕ) (old new : Outside)
@@ -140,3 +143,16 @@ pub outcome_usage : (command : Command) (text : List ℕ) (status : Status) (old
 outcome_usage command text status old new outcome is =
     no_usage command text old new
     (subst (λ (s : Status). Outcome command text s old new) is outcome)
+
+-- from how a text was written, or a refusal, to what became of the reply
+pub text_replied : (status : Status) (text : List ℕ) (old new : Option (List ℕ))
+    → Reported status (Ok text) old new → Replied status (Ok (Text text)) old new
+text_replied Done text old new wrote = wrote
+text_replied SinkFault text old new wrote = wrote
+text_replied status text old new wrote = absurd wrote
+
+pub refusal_replied : (status : Status) (lines : List ℕ) (old new : Option (List ℕ))
+    → Refuses status (Ok lines) old new → Replied status (Ok (Refusal lines)) old new
+refusal_replied Refused lines old new wrote = wrote
+refusal_replied SinkFault lines old new wrote = wrote
+refusal_replied status lines old new wrote = absurd wrote

@@ -10,7 +10,7 @@ use Rattle.query_model.specs.Monitors.{Monitor}
 use Rattle.query_text.specs.Programs.{text_of}
 use Rattle.stream_run.specs.Endings.{EndedBy}
 use Rattle.stream_run.specs.Outside.{Outside}
-use Rattle.shard_run.specs.Pieces.{IsRefusal, query_of}
+use Rattle.shard_run.specs.Pieces.{IsMade, IsRefusal, query_of}
 use Rattle.shard_run.specs.Routes.{AreRoutes, routing_for}
 use Rattle.shard_run.specs.Verdicts.{IsAccepted}
 use Rattle.shard_run.specs.declared.command.Command.{Command}
@@ -38,10 +38,10 @@ WritesText text Memory old new = new ≡ old
 WritesText text _ old new = ⊥
 
 -- what a command does for a collect on items that lie so in lines: the text of one of its queries
--- is written, or for each line where it goes, as a run writes its answers
+-- is written, if that is made, or for each line where it goes, as a run writes its answers
 abbrev pub Carries : Command → Monitor → Collection → Status → Outside → Outside → Type 0
-Carries (Text piece) monitor given status old new =
-    WritesText (text_of monitor.layout (query_of piece given)) status old new
+Carries (Text piece) monitor given status old new = IsMade piece monitor.query
+    × WritesText (text_of monitor.layout (query_of piece given)) status old new
 Carries (Route shards) monitor given status old new =
     EndedBy (AreRoutes (routing_for monitor.layout given shards)) status old new
 

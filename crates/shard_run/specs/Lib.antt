@@ -2,8 +2,8 @@ pub mod Call
 pub mod Commands
 pub mod Pieces
 pub mod Replied
+pub mod RouterLaws
 pub mod Routers
 pub mod Routes
-pub mod Running
 pub mod Texts
 pub mod Verdicts

@@ -25,6 +25,11 @@ abbrev pub query_of : Piece → Collection → Qre
 query_of Shard given = shard_of given
 query_of Mask given = mask_of given
 
+-- the query is made: that of a shard, unless it would keep more slots than a query may
+abbrev pub IsMade : Piece → Qre → Type 0
+IsMade Shard query = IsTooLarge query → ⊥
+IsMade Mask query = Unit {0}
+
 -- the line by which a command refuses a query text
 pub data IsRefusal (command : Command) (text : List ℕ) : List ℕ → Type 0 where
   -- the text breaks a rule
@@ -41,7 +46,7 @@ pub data IsRefusal (command : Command) (text : List ℕ) : List ℕ → Type 0 w
 -- the reply to a command that asks for one of these queries, where the main query stands there
 abbrev pub IsReplyFor : Piece → Monitor → Span → Reply → Type 0
 IsReplyFor piece monitor place (reply.Text bytes) = (given : Collection)
-    × (collection_in monitor.query ≡ Some given)
+    × (collection_in monitor.query ≡ Some given) × IsMade piece monitor.query
     × (bytes ≡ text_of monitor.layout (query_of piece given))
 IsReplyFor piece monitor place (reply.Refusal lines) = (text : List ℕ)
     → IsAccepted text monitor place → IsRefusal (asks.Text piece) text lines

@@ -5,7 +5,7 @@ use Rattle.predicates.specs.Plain.{plain_of}
 use Rattle.key_shards.specs.Collections.{Collection, collection_in}
 use Rattle.query_model.specs.Monitors.{Monitor}
 use Rattle.stream_run.specs.Output.{is_header, read_of}
-use Rattle.shard_run.specs.Routes.{Read, Routing, routing_for}
+use Rattle.shard_run.specs.Routes.{AreRoutes, Read, Routing, routing_for}
 use Rattle.shard_run.specs.declared.router.Router.{Router}
 
 -- what it does
@@ -26,6 +26,16 @@ read_by router line =
 pub record IsRouterAfter (routing : Routing) (shown : List Shown) (router : Router) : Type 0 where
   pub routing_is : routing_of router ≡ routing
   pub header : router.awaits_header ≡ is_header routing.layout shown
+
+-- it has taken these lines since the first router had taken none of a stream
+abbrev pub StandsAfter : Router → List Shown → Router → Type 0
+StandsAfter first shown router =
+    (routing : Routing) → IsRouterAfter routing [] first → IsRouterAfter routing shown router
+
+-- the text says where these lines go, which come to a router that has taken none of their stream
+abbrev pub SaysRoutes : Router → List Shown → List ℕ → Type 0
+SaysRoutes first shown text =
+    (routing : Routing) → IsRouterAfter routing [] first → AreRoutes routing shown text
 
 -- the query is a collect, and the router divides its keys and has taken no lines
 abbrev pub IsRouterFor : Monitor → ℕ → Router → Type 0

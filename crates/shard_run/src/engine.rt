@@ -13,13 +13,12 @@ ghost use Rattle.shard_run.specs.Verdicts.{IsAccepted};
 use crate::command::Command;
 use crate::pieces::piece_reply;
 use crate::reply::{whole, write_reply};
-use crate::route_loop::route_lines;
 use crate::router::Router;
 use io_edge::{Sink, Source};
 use key_routes::Sharding;
 use query_model::{Checked, Shape};
 use std::alloc::Global;
-use stream_run::Status;
+use stream_run::{Status, reply_to_lines};
 
 /// Carries a command out. Only `route` reads the items.
 pub fn carry_out<S: Source, W: Sink>(
@@ -61,7 +60,7 @@ fn route<S: Source, W: Sink>(
     ensures sink_faults { ReportsFault result Status.SinkFault W.faults out.old out.new }
 {
     match router_for(checked, shards) {
-        Some(mut router) => route_lines(alloc, &mut router, items, out),
+        Some(mut router) => reply_to_lines(alloc, &mut router, items, out),
         None => write_reply(whole(alloc, checked.main().span), out),
     }
 }

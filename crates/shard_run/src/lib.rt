@@ -8,7 +8,6 @@ mod judged;
 mod laws;
 mod pieces;
 mod reply;
-mod route_loop;
 mod route_text;
 mod router;
 

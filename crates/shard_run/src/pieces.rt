@@ -28,7 +28,11 @@ fn shard_reply(alloc: Global, checked: &Checked) -> Result<Reply, AllocError>
 {
     let span = checked.main().span;
     match part_of(checked, alloc) {
-        Ok(Some(part)) => Ok(Reply::Text(text_of(&part, alloc)?)),
+        Ok(Some(part)) => {
+            // Its accessors say that it keeps the limits.
+            let _schema = part.schema();
+            Ok(Reply::Text(text_of(&part, alloc)?))
+        }
         Ok(None) => whole(alloc, span),
         Err(PartStop::TooLarge) => refused(
             alloc,

@@ -1,18 +1,15 @@
 //! What a command answers in one text.
-ghost use Rattle.std.specs.Prelude.{◌≡◌, IfOk, MatchResult, OnOk};
-ghost use Rattle.std.specs.Io.KnownBytes.{Appends};
-ghost use Rattle.io_edge.specs.Counts.{FailsByFault};
+ghost use Rattle.std.specs.Prelude.{◌≡◌, IfOk};
 ghost use Rattle.io_edge.specs.Faults.{LeavesFlushed, ReportsFault};
-ghost use Rattle.io_edge.specs.Written.{AppendsSome};
 ghost use Rattle.report_writer.specs.Texts.{refusal_text};
 ghost use Rattle.shard_run.specs.Replied.{Replied};
 ghost use Rattle.shard_run.specs.Texts.{whole_text};
 
-use io_edge::{Failed, Sink, write_all};
+use io_edge::Sink;
 use language_base::{Bytes, Refusal, Span};
 use report_writer::refusal_text;
 use std::alloc::{AllocError, Global};
-use stream_run::Status;
+use stream_run::{Status, refuse, report};
 
 #[derive(Drop)]
 pub enum Reply {
@@ -52,25 +49,8 @@ pub fn write_reply<W: Sink>(reply: Result<Reply, AllocError>, out: &mut W) -> St
     ensures sink_faults { ReportsFault result Status.SinkFault W.faults out.old out.new }
 {
     match reply {
-        Ok(Reply::Text(text)) => match write_and_flush(text.as_slice(), out) {
-            Ok(()) => Status::Done,
-            Err(Failed) => Status::SinkFault,
-        },
-        Ok(Reply::Refusal(lines)) => match write_and_flush(lines.as_slice(), out) {
-            Ok(()) => Status::Refused,
-            Err(Failed) => Status::SinkFault,
-        },
+        Ok(Reply::Text(text)) => report(Ok(text), out),
+        Ok(Reply::Refusal(lines)) => refuse(Ok(lines), out),
         Err(AllocError) => Status::Memory,
     }
-}
-
-fn write_and_flush<W: Sink>(bytes: &[u8], out: &mut W) -> Result<(), Failed>
-    ensures written { MatchResult result
-        (λ _. Appends (W.taken out.old) (W.taken out.new) bytes.now)
-        (λ _. AppendsSome (W.taken out.old) (W.taken out.new) bytes.now) }
-    ensures flushed { OnOk result (W.held out.new ≡ 0) }
-    ensures cause { FailsByFault (W.faults out.old) (W.faults out.new) result }
-{
-    write_all(out, bytes)?;
-    out.flush()
 }

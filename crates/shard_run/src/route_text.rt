@@ -1,5 +1,5 @@
 //! What is written of a line.
-ghost use Rattle.std.specs.Prelude.{◌≡◌, ◌++◌, IfOk, IsOk, OnOk};
+ghost use Rattle.std.specs.Prelude.{◌≡◌, ◌++◌, IfOk, OnOk};
 ghost use Rattle.shard_run.specs.Texts.{route_text};
 
 use crate::router::LineRoute;
@@ -9,14 +9,9 @@ use report_writer::push_skip;
 use std::alloc::AllocError;
 
 /// Puts what is written of a line that goes so into the buffer in place of what was there.
-pub fn text_in<'b>(
-    route: Result<LineRoute, AllocError>,
-    buffer: &'b mut Vec<u8>,
-) -> Result<&'b [u8], AllocError>
-    ensures text { IfOk result (λ text. IfOk route (λ went. text.now ≡ route_text went)) }
-    ensures known { OnOk result (IsOk route) }
+pub fn text_in(route: LineRoute, buffer: &mut Vec<u8>) -> Result<&[u8], AllocError>
+    ensures { IfOk result (λ text. text.now ≡ route_text route) }
 {
-    let route = route?;
     buffer.clear();
     push_route(route, buffer)?;
     Ok(buffer.as_slice())

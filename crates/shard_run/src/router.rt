@@ -6,10 +6,12 @@ ghost use Rattle.predicates.specs.Plain.{plain_of};
 ghost use Rattle.shard_run.specs.Routers.{read_by, routing_of};
 ghost use Rattle.shard_run.specs.Routes.{line_route};
 
+use crate::route_text::text_in;
 use item_schema::{Item, Schema};
 use key_routes::{Route, Sharding};
 use line_reader::{Cause, ItemStop, Skip, read_item};
 use std::alloc::{AllocError, Global};
+use stream_run::Replier;
 
 /// How a line that is too long is left out.
 const TOO_LONG: Skip = Skip {
@@ -80,6 +82,45 @@ impl<'q> Router<'q> {
         }
         LineRoute::Skipped(TOO_LONG)
     }
+}
+
+impl Replier for Router<'_> {
+    ghost use Rattle.std.specs.Prelude.{◌<◌};
+    ghost use Rattle.shard_run.specs.RouterLaws.{routes_nothing, same_router};
+    ghost use Rattle.shard_run.specs.Routers.{SaysRoutes, StandsAfter};
+
+    ghost stands = { StandsAfter };
+
+    ghost says = { SaysRoutes };
+
+    ghost ready = { λ router. 0 < router.sharding.shards };
+
+    ghost position = { λ router. 0 };
+
+    ghost same = { λ first now. Unit {0} };
+
+    fn reply<'b>(
+        &mut self,
+        alloc: Global,
+        line: &[u8],
+        buffer: &'b mut Vec<u8>,
+    ) -> Result<&'b [u8], AllocError> {
+        let route = self.line(alloc, line)?;
+        text_in(route, buffer)
+    }
+
+    fn reply_to_long<'b>(&mut self, buffer: &'b mut Vec<u8>) -> Result<&'b [u8], AllocError> {
+        let route = self.long_line();
+        text_in(route, buffer)
+    }
+
+    ghost begins = { same_router };
+
+    ghost says_nothing = { routes_nothing };
+
+    ghost same_before = { λ first. tt };
+
+    ghost same_after = { λ first now next before after. tt };
 }
 
 // Where the item of a line goes.

@@ -12,12 +12,11 @@ ghost use Rattle.sqre_run.specs.Call.{OutcomeOf, ReadsToFirstEnd, Untouched};
 use crate::blame_text::blame_text;
 use crate::command::command_of;
 use crate::engine::carry_out;
-use crate::refusal::refuse;
 use io_edge::{Sink, Source};
 use query_compiler::{QueryStop, compile};
 use report_writer::refusal_text;
 use std::alloc::Global;
-use stream_run::Status;
+use stream_run::{Status, refuse};
 
 /// Does what the words after the program's name ask for. `run QUERY ITEMS` compiles the query and
 /// answers every line of the items, and so does `slow QUERY ITEMS` with the engine that keeps the

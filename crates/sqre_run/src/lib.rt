@@ -7,7 +7,6 @@ mod command;
 mod drill_engine;
 mod engine;
 mod laws;
-mod refusal;
 mod rewritten_text;
 mod room;
 mod run_engine;

@@ -1,5 +1,6 @@
 -- A front of what a run has to write was written, and the ends that were met.
-use Rattle.std.proofs.Common.{◌≡◌, ◌⊎◌, inl, inr, ℕ, true, false, List, [], ◌++◌, Option, sym, ap}
+use Rattle.std.proofs.Common.{◌≡◌, ◌⊎◌, inl, inr, ℕ, true, false, List, [], ◌++◌, Option, Some, None}
+use Rattle.std.proofs.Common.{IfSome, sym, ap}
 use Rattle.std.proofs.Common.{◌∙◌, append_assoc, append-nil, arith}
 use Rattle.std.proofs.KnownBytes.{Appends-trans}
 use Rattle.std.specs.Io.KnownBytes.{Appends, Consumes}
@@ -7,10 +8,12 @@ use Rattle.io_edge.specs.Counts.{Rose, next_count}
 use Rattle.io_edge.specs.Lines.{Shown, lines}
 use Rattle.io_edge.specs.Reading.{Reading, lines_after}
 use Rattle.io_edge.specs.Written.{AppendsSome}
-use Rattle.stream_run.specs.Endings.{Begins, EndedBy}
+use Rattle.stream_run.specs.Endings.{Begins, EndedBy, Writes}
 use Rattle.stream_run.specs.Outside.{MeetsOneAtMost, Outside}
 use Rattle.stream_run.specs.Running.{Showed}
-use Rattle.stream_run.specs.declared.status.Status.TheVariants.{SinkFault}
+use Rattle.stream_run.specs.declared.status.Status.{Status}
+use Rattle.stream_run.specs.declared.status.Status.TheVariants.{Done, Refused, Usage, QueryFault}
+use Rattle.stream_run.specs.declared.status.Status.TheVariants.{ItemFault, SinkFault, Memory, Limit}
 use Rattle.stream_run.proofs.Showing.{Showed-lines, Showed-split, true_or_false}
 
 -- a count that is one more rose
@@ -80,3 +83,56 @@ part_after old now new text more wrote (front, rest, parts, appends) = (
   ap (λ (l : List ℕ). text ++ l) parts ∙ sym (append_assoc text front rest),
   Appends-trans _ _ _ _ _ wrote appends,
 )
+
+-- what holds of the bytes that are left, where it follows from another fact
+pub left_so : (left : Option (List ℕ)) (P Q : List ℕ → Type 0) → ((bytes : List ℕ) → P bytes → Q bytes)
+    → IfSome left P → IfSome left Q
+left_so (Some bytes) P Q so holds = so bytes holds
+left_so None P Q so holds = tt
+
+-- what was written for lines is what another relation says of it, too
+writes_so : (Says Tells : List Shown → List ℕ → Type 0)
+    → ((shown : List Shown) (text : List ℕ) → Says shown text → Tells shown text)
+    → (old new : Outside) (shown : List Shown) → Writes Says old new shown
+    → Writes Tells old new shown
+writes_so Says Tells so old new shown (text, said, wrote) = (text, so shown text said, wrote)
+
+-- and so is how a run ended
+pub ended_so : (Says Tells : List Shown → List ℕ → Type 0)
+    → ((shown : List Shown) (text : List ℕ) → Says shown text → Tells shown text)
+    → (status : Status) (old new : Outside) → EndedBy Says status old new
+    → EndedBy Tells status old new
+ended_so Says Tells so Done old new (ends, wrote) = (
+  ends,
+  left_so old.left _ _ (λ bytes. writes_so Says Tells so old new (lines bytes true)) wrote,
+)
+ended_so Says Tells so ItemFault old new (ends, got, read, wrote) =
+    (ends, got, read, writes_so Says Tells so old new (lines got false) wrote)
+ended_so Says Tells so SinkFault old new (ends, got, read, part) = (
+  ends,
+  got,
+  read,
+  record {
+    some = part.some;
+    text = part.text;
+    said = so part.some part.text part.said;
+    wrote = part.wrote;
+    begins = part.begins;
+    no_end = part.no_end;
+  },
+)
+ended_so Says Tells so Memory old new (ends, got, read, wrote) = (
+  ends,
+  got,
+  read,
+  record {
+    some = wrote.some;
+    whole = wrote.whole;
+    wrote = writes_so Says Tells so old new wrote.some wrote.wrote;
+  },
+)
+ended_so Says Tells so Limit old new (ends, got, all, read, wrote) =
+    (ends, got, all, read, writes_so Says Tells so old new (lines got false) wrote)
+ended_so Says Tells so Usage old new ended = ended
+ended_so Says Tells so QueryFault old new ended = ended
+ended_so Says Tells so Refused old new ended = ended

@@ -14,7 +14,8 @@ use Rattle.stream_run.specs.Resumed.{meaning_after}
 use Rattle.stream_run.specs.Sessions.{is_begun}
 use Rattle.stream_run.proofs.Answering.{answers_after-append}
 use Rattle.stream_run.proofs.CutLines.{begun-lines, lines-cut}
-use Rattle.stream_run.proofs.LineItems.{no_items, read_after}
+use Rattle.stream_run.specs.SessionLaws.{no_items}
+use Rattle.stream_run.proofs.LineItems.{read_after}
 use Rattle.stream_run.proofs.Sessions.{answer-is}
 
 -- the parts of two lists, one after the other

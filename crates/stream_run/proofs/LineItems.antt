@@ -58,10 +58,6 @@ and-false : (b : Bool) → (b && false) ≡ false
 and-false true = refl
 and-false false = refl
 
-pub or-false : (b : Bool) → (b || false) ≡ b
-or-false true = refl
-or-false false = refl
-
 -- some line has come after another
 pub is_begun-push : (before : List Shown) (line : Shown) → is_begun (before ++ line ∷ []) ≡ true
 is_begun-push [] line = refl
@@ -87,12 +83,3 @@ pub word_joined : (columns : List Column) (u v : Word) → IsWordOf columns u �
     → IsWordOf columns (u ++ v)
 word_joined columns [] v is others = others
 word_joined columns (item ∷ u) v is others = (is.0, word_joined columns u v is.1 others)
-
--- of no lines there are no items
-pub no_items : (layout : Layout) → items_of layout [] ≡ []
-no_items layout = at layout.has_header
-  where
-    at : (h : Bool)
-        → flat_map (λ l. item_in (read_of layout.columns l)) (body_of h []) ≡ []
-    at true = refl
-    at false = refl

@@ -16,6 +16,7 @@ use Rattle.stream_run.specs.declared.status.Status.{Status}
 use Rattle.stream_run.specs.declared.status.Status.TheVariants.{Done, Refused, Usage, QueryFault}
 use Rattle.stream_run.specs.declared.status.Status.TheVariants.{ItemFault, SinkFault, Memory, Limit}
 use Rattle.stream_run.proofs.Answering.{answers_after-append}
+use Rattle.stream_run.proofs.EndedPart.{left_so}
 
 -- the answers to lines with which others begin, or a front of them, are a front of those to all
 part_of : (meaning : Meaning) (all some : List Shown) (old new : Option (List ℕ))
@@ -29,12 +30,6 @@ part_of meaning all some old new (others, are) (front, rest, parts, appends) = (
       ∙ append_assoc front rest (answers_after meaning some others),
   appends,
 )
-
--- what holds of the bytes that are left, where it follows from another fact
-left_so : (left : Option (List ℕ)) (P Q : List ℕ → Type 0) → ((bytes : List ℕ) → P bytes → Q bytes)
-    → IfSome left P → IfSome left Q
-left_so (Some bytes) P Q so holds = so bytes holds
-left_so None P Q so holds = tt
 
 module _ {F : Type 0} (follows : F → Word → Type 0) (on : CheckedQuery) (first : F)
     (none : follows first []) (old new : Outside) where

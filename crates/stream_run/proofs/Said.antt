@@ -1,6 +1,7 @@
 -- What was written for lines, and for one line more.
 use Rattle.std.proofs.Common.{◌≡◌, ℕ, Bool, true, false, cond, List, [], ◌∷◌, ◌++◌, Option, None}
-use Rattle.std.proofs.Common.{Result, refl, sym, ap, subst, ◌∙◌, append_assoc, append-nil}
+use Rattle.std.proofs.Common.{Result, Ok, Err, IfOk, Bor, refl, sym, ap, subst, ◌∙◌, append_assoc, append-nil}
+use Rattle.std.specs.declared.alloc.AllocError.{AllocError}
 use Rattle.io_edge.specs.Lines.{Shown}
 use Rattle.value_ops.specs.declared.field.Field.{Field}
 use Rattle.item_schema.specs.Layout.{Layout}
@@ -10,8 +11,9 @@ use Rattle.rate_expr.specs.Words.{Word}
 use Rattle.stream_run.specs.Meanings.{Meaning}
 use Rattle.stream_run.specs.Output.{answer, answers, body_of, read_of}
 use Rattle.stream_run.specs.Replies.{AreReplies, AreRepliesTo, IsReply}
+use Rattle.stream_run.specs.Replying.{Replies}
 use Rattle.stream_run.specs.Resumed.{meaning_after}
-use Rattle.stream_run.specs.Sessions.{IsAfter, IsSaid, Origin, RepliesTo, layout_from}
+use Rattle.stream_run.specs.Sessions.{IsAfter, IsSaid, Origin, RepliesTo, layout_from, origin_of}
 use Rattle.stream_run.specs.declared.session.Session.{Session}
 use Rattle.stream_run.proofs.Answering.{answers-push}
 use Rattle.stream_run.proofs.LineItems.{read_after}
@@ -71,19 +73,7 @@ said-push layout [] line text reply are replies =
 said-push layout (first ∷ before) line text reply are replies =
     later_said layout.columns line text reply layout.has_header first before are replies
 
--- of no lines nothing is said
-said_none : (columns : List Column) (has_header : Bool)
-    → AreReplies columns (body_of has_header []) []
-said_none columns true = refl
-said_none columns false = refl
-
 module _ {F : Type 0} (follows : F → Word → Type 0) (origin : Origin F) where
-  pub said_nothing : IsSaid follows origin [] []
-  said_nothing = record {
-    replies = said_none (layout_from origin).columns (layout_from origin).has_header;
-    values = λ word meaning first means. refl;
-  }
-
   -- what was said of lines, and the reply to one more
   pub said_more : (before : List Shown) (line : Shown) (text reply : List ℕ) (old new : Session F)
       → IsAfter follows origin before old → IsSaid follows origin before text
@@ -98,3 +88,23 @@ module _ {F : Type 0} (follows : F → Word → Type 0) (origin : Origin F) wher
         ∙ replied (meaning_after meaning word origin.began) before line reply
         (replies.answers origin before holds_after word meaning first means);
   }
+
+-- what a session writes for a line is what replies to it
+pub replies_so : {F : Type 0} (follows : F → Word → Type 0) (line : Shown) (written : List ℕ)
+    (old new : Session F) → RepliesTo follows line written old new
+    → Replies (λ first lines now. IsAfter follows (origin_of first) lines now)
+    (λ first lines text. IsSaid follows (origin_of first) lines text) line written old new
+replies_so follows line written old new replies = record {
+  stands = λ first before holds_after. replies.takes (origin_of first) before holds_after;
+  says = λ first before text holds_after said.
+      said_more follows (origin_of first) before line text written old new holds_after said replies;
+}
+
+-- so is a text that was made for it
+pub said_so : {F : Type 0} (follows : F → Word → Type 0) (line : Shown)
+    (result : Result (Bor (List ℕ)) AllocError) (old new : Session F)
+    → IfOk result (λ reply. RepliesTo follows line reply.now old new)
+    → IfOk result (λ reply. Replies (λ first lines now. IsAfter follows (origin_of first) lines now)
+    (λ first lines text. IsSaid follows (origin_of first) lines text) line reply.now old new)
+said_so follows line (Ok reply) old new replies = replies_so follows line reply.now old new replies
+said_so follows line (Err error) old new replies = tt

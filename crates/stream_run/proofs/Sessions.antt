@@ -29,7 +29,7 @@ use Rattle.stream_run.specs.Sessions.{read_by, text_of}
 use Rattle.stream_run.specs.declared.session.Reply.{Reply}
 use Rattle.stream_run.specs.declared.session.Reply.TheVariants.{Answered, Silent, Skipped}
 use Rattle.stream_run.specs.declared.session.Session.{Session}
-use Rattle.stream_run.proofs.LineItems.{begun_next, header_next, items-push, no_items, or-false}
+use Rattle.stream_run.proofs.LineItems.{begun_next, header_next, items-push}
 use Rattle.stream_run.proofs.LineItems.{read_after, word_joined}
 use Rattle.stream_run.proofs.OneAnswer.{one_answer}
 
@@ -66,19 +66,6 @@ is_reply read reply answered is =
     (answered, reply-text read reply answered answered is (λ item found. refl))
 
 module _ {F : Type 0} (follows : F → Word → Type 0) where
-  -- before the first line
-  pub after_none : (session : Session F) → IsAfter follows (origin_of session) [] session
-  after_none session =
-      let layout = layout_from (origin_of session) in
-      let none : [] ≡ items_of layout [] = sym (no_items layout) in
-      record {
-        same = refl;
-        is_word = subst (IsWordOf session.checked.now.layout.columns) none tt;
-        carries = λ word first. subst (λ (w : Word). follows session.follower (word ++ w)) none
-            (subst (follows session.follower) (sym (append-nil word)) first);
-        began_is = sym (or-false session.began);
-      }
-
   module _ (origin : Origin F) (before : List Shown) (line : Shown) (old new : Session F)
       (holds_after : IsAfter follows origin before old) where
     -- what the session reads is what the line gives after these

@@ -5,8 +5,10 @@ pub mod Meanings
 pub mod Output
 pub mod Outside
 pub mod Replies
+pub mod Replying
 pub mod Resumed
 pub mod Running
+pub mod SessionLaws
 pub mod Sessions
 pub mod Statuses
 pub mod Written

@@ -2,8 +2,8 @@
 ghost use Rattle.std.specs.Prelude.{◌≡◌, ◌⊎◌, IfSome, OnOk};
 ghost use Rattle.io_edge.specs.Counts.{FailsByFault};
 ghost use Rattle.io_edge.specs.Reported.{IsQuiet};
-ghost use Rattle.io_edge.specs.Faults.{EndsFlushed, ReportsFault};
-ghost use Rattle.stream_run.specs.Written.{Replied, Reported};
+ghost use Rattle.io_edge.specs.Faults.{EndsFlushed, LeavesFlushed, ReportsFault};
+ghost use Rattle.stream_run.specs.Written.{Refuses, Replied, Reported};
 
 use crate::Status;
 use io_edge::{Failed, Lines, Sink, write_all};
@@ -38,6 +38,21 @@ pub fn report<W: Sink>(line: Result<Bytes, AllocError>, out: &mut W) -> Status
     };
     match write_all(out, line.as_slice()) {
         Ok(()) => end(Status::Done, out),
+        Err(Failed) => Status::SinkFault,
+    }
+}
+
+/// Writes the lines of a refusal and flushes them. Out of memory for them, it writes nothing.
+pub fn refuse<W: Sink>(lines: Result<Bytes, AllocError>, out: &mut W) -> Status
+    ensures refuses { Refuses result lines (W.taken out.old) (W.taken out.new) }
+    ensures flushed { LeavesFlushed result Status.SinkFault W.held out.old out.new }
+    ensures cause { ReportsFault result Status.SinkFault W.faults out.old out.new }
+{
+    let Ok(lines) = lines else {
+        return Status::Memory;
+    };
+    match write_all(out, lines.as_slice()) {
+        Ok(()) => end(Status::Refused, out),
         Err(Failed) => Status::SinkFault,
     }
 }

@@ -1,6 +1,6 @@
 use Rattle.std.proofs.Common.{[], ap, subst}
 use Rattle.stream_run.specs.Sessions.{IsAfter, Origin, origin_of}
-use Rattle.stream_run.proofs.Sessions.{after_none}
+use Rattle.stream_run.specs.SessionLaws.{after_none}
 use Rattle.stream_run.proofs.drill_loop.begin.Goals as goal
 
 pub returns-clause-after : goal.returns-clause-after

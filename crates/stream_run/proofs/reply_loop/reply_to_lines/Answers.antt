@@ -1,14 +1,11 @@
 use Rattle.std.proofs.Common.{◌≡◌, [], Option, Some, IfSome, inl, refl, sym, subst, ◌∙◌, arith}
 use Rattle.std.proofs.KnownBytes.{Consumes-nil, Appends-nil}
-use Rattle.stream_run.proofs.Said.{said_nothing}
-use Rattle.stream_run.proofs.Sessions.{after_none}
 use Rattle.stream_run.proofs.Turns.{Ended-held, Running-begins, Running-held}
 use Rattle.stream_run.specs.Outside.{outside}
-use Rattle.stream_run.specs.Sessions.{origin_of}
 use Rattle.stream_run.specs.declared.status.Status.TheVariants.{SinkFault}
-use Rattle.stream_run.proofs.run_loop.run_on.Goals as goal
-use Rattle.stream_run.proofs.run_loop.run_on.Goals.{in-Err-flush_before_read}
-use Rattle.stream_run.proofs.run_loop.run_on.Goals.{in-Ok-flush_before_read}
+use Rattle.stream_run.proofs.reply_loop.reply_to_lines.Goals as goal
+use Rattle.stream_run.proofs.reply_loop.reply_to_lines.Goals.{in-Err-flush_before_read}
+use Rattle.stream_run.proofs.reply_loop.reply_to_lines.Goals.{in-Ok-flush_before_read}
 
 -- nothing was read and nothing was written
 pub returns-in-Err-clause-ended : goal.returns-in-Err-clause-ended
@@ -19,18 +16,20 @@ returns-in-Err-clause-ended g c = (
   record {
     some = [];
     whole = ([], refl);
-    wrote = ([], said_nothing g.F.Follower.follows (origin_of c.args.session.now), Appends-nil _);
+    wrote = ([], g.met.R.Replier.says_nothing c.args.replier.now, Appends-nil _);
   },
 )
 
 pub lines-init : goal.lines-init
 lines-init g c =
-    let f = g.F.Follower in
+    let r = g.R.Replier in
+    let laws = g.met.R.Replier in
+    let first = c.args.replier.now in
     record {
-      running = Running-begins f.follows _ _ _ _ c.in-Ok.ensures
-          (after_none f.follows c.args.session.now);
+      running = Running-begins r.stands r.says first _ _ first c.in-Ok.ensures (laws.begins first)
+          (laws.says_nothing first);
       ready = c.requires.ready;
-      same = refl;
+      same = laws.same_before first;
       count = omega (arith, c.requires.room);
       items_calm = refl;
       sink_calm = refl;
@@ -45,16 +44,17 @@ some_holds P there one is holds = subst (λ o. IfSome o P) is holds
 pub returns-in-Some-clause-after : goal.returns-in-Some-clause-after
 returns-in-Some-clause-after g c done =
     let at = outside g.S.Source.left g.S.Source.ends g.W.Sink.taken in
-    let origin = origin_of c.args.session.now in
+    let first = c.args.replier.now in
+    let r = g.R.Replier in
     let before = at c.args.items.now c.args.out.now in
     let now = at c.lines.items c.lines.out in
     elim c.match-flush_before_read.branch [
       | in-Ok-flush_before_read w ↦
-          let running = Running-held g.F.Follower.follows origin before now c.lines.lines
-          c.lines.session _ c.flush_before_read.ensures.taken c.lines.invariant.running in
+          let running = Running-held r.stands r.says first before now c.lines.lines
+          c.lines.replier _ c.flush_before_read.ensures.taken c.lines.invariant.running in
           let stops = some_holds _ w.turn-ended.result c.in-Some.status
           (sym w.ended-is ∙ c.in-Some.is) w.turn-ended.ensures.stops in
-          rw (w.session-is) ((stops origin before running).after done)
+          rw (w.replier-is) ((stops first before running).after done)
       | in-Err-flush_before_read w ↦
           let fault : SinkFault ≡ c.in-Some.status = cc in
           absurd (cc (done, fault))
@@ -64,19 +64,20 @@ returns-in-Some-clause-after g c done =
 pub returns-in-Some-clause-ended : goal.returns-in-Some-clause-ended
 returns-in-Some-clause-ended g c =
     let at = outside g.S.Source.left g.S.Source.ends g.W.Sink.taken in
-    let origin = origin_of c.args.session.now in
+    let first = c.args.replier.now in
+    let r = g.R.Replier in
     let before = at c.args.items.now c.args.out.now in
     let now = at c.lines.items c.lines.out in
     elim c.match-flush_before_read.branch [
       | in-Ok-flush_before_read w ↦
-          let running = Running-held g.F.Follower.follows origin before now c.lines.lines
-          c.lines.session _ c.flush_before_read.ensures.taken c.lines.invariant.running in
+          let running = Running-held r.stands r.says first before now c.lines.lines
+          c.lines.replier _ c.flush_before_read.ensures.taken c.lines.invariant.running in
           let stops = some_holds _ w.turn-ended.result c.in-Some.status
           (sym w.ended-is ∙ c.in-Some.is) w.turn-ended.ensures.stops in
-          rw (w.items-is, w.out-is) (stops origin before running).ended
+          rw (w.items-is, w.out-is) (stops first before running).ended
       | in-Err-flush_before_read w ↦
-          let held = Ended-held g.F.Follower.follows origin before now c.lines.lines
-          c.lines.session _ c.flush_before_read.ensures.taken c.lines.invariant.running in
+          let held = Ended-held r.stands r.says first before now c.lines.lines
+          c.lines.replier _ c.flush_before_read.ensures.taken c.lines.invariant.running in
           let fault : SinkFault ≡ c.in-Some.status = cc in
           rw (w.items-is, w.out-is, ← fault) held
     ]
