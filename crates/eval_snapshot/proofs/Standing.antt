@@ -10,7 +10,7 @@ use Rattle.predicates.specs.Predicates.{Predicate}
 use Rattle.predicates.specs.Truth.{holds}
 use Rattle.rate_expr.specs.After.{IsAfter}
 use Rattle.rate_expr.specs.Readings.{HasExtension}
-use Rattle.rate_expr.specs.Words.{Word}
+use Rattle.rate_expr.specs.Words.{Word, IsWordOf}
 use Rattle.query_model.specs.Denotation.{Den, projection}
 use Rattle.query_model.specs.Queries as query
 use Rattle.query_model.specs.Queries.{Qre}
@@ -259,10 +259,12 @@ module _ {R : Type 0} (seen : R → Seen R) where
   stands columns (query.compose f g) h word starts are = absurd are
   stands columns (query.collect chosen sync rate f) h word starts are = absurd are
 
-  -- what is kept of a runner means each word that the runner follows
+  -- what is kept of a runner means each word of its stream that the runner follows
   pub means : (columns : List Column) (q : Qre) (word : Word) (one : R)
-      → IsFollowing seen (Represents seen columns q) q word one
+      → IsWordOf columns word → IsFollowing seen (Represents seen columns q) q word one
       → Means columns q (dumped seen q one) word
-  means columns q word one follows =
-      runner_stands (Stands columns q) (Represents seen columns q) (dumped_node seen q) q
-      (stands columns q) word one follows
+  means columns q word one is follows = (
+    is,
+    runner_stands (Stands columns q) (Represents seen columns q) (dumped_node seen q) q
+        (stands columns q) word one follows,
+  )

@@ -12,7 +12,7 @@ use Rattle.rate_expr.specs.Language.{In}
 use Rattle.rate_expr.specs.Rates as rate
 use Rattle.rate_expr.specs.Readings.{HasExtension}
 use Rattle.rate_expr.specs.Sets.{Sets}
-use Rattle.rate_expr.specs.Words.{Word}
+use Rattle.rate_expr.specs.Words.{Word, IsWordOf}
 use Rattle.query_model.specs.Denotation.{Den, Outputs, keys_after, projection}
 use Rattle.query_model.specs.Following.{IsAnswer}
 use Rattle.query_model.specs.Queries as query
@@ -100,6 +100,7 @@ Stands columns (query.collect chosen sync rate f) (collect tracks) word starts =
     (track_list tracks)
 Stands columns query node word starts = ⊥
 
--- a runner of the query that follows the word
+-- a runner of the query that follows the word, which is one of the stream
 abbrev pub Means : List Column → Qre → Runner → Word → Type 0
-Means columns query dump word = IsRunnerAfter (Stands columns query) query word dump
+Means columns query dump word =
+    IsWordOf columns word × IsRunnerAfter (Stands columns query) query word dump

@@ -1,7 +1,7 @@
 -- What fits a checked query has bytes that can be read again, where they are few.
-use Rattle.std.proofs.Common.{◌≡◌, ◌<◌, ◌≤◌, ◌+◌, ◌^◌, ℕ, zero, suc, List, ◌∷◌, ◌++◌, length}
+use Rattle.std.proofs.Common.{◌≡◌, ◌<◌, ◌≤◌, ◌+◌, ◌^◌, ℕ, zero, suc, List, ◌++◌, length}
 use Rattle.std.proofs.Common.{arith, refl, subst, sym}
-use Rattle.std.specs.List.{AllByRecursion, flat_map}
+use Rattle.std.specs.List.{AllByRecursion}
 use Rattle.std.proofs.Math.Nat.{pow-le-pow_right}
 use Rattle.value_ops.specs.declared.value.ValueType.{ValueType}
 use Rattle.value_ops.specs.declared.value.ValueType.TheVariants.{Number}
@@ -20,7 +20,7 @@ use Rattle.eval_nodes.proofs.Instances.{all_mapped}
 use Rattle.runner_snapshot.specs.Bytes.{answer_bytes, entries_bytes, fed_bytes, in_eight, in_four}
 use Rattle.runner_snapshot.specs.Bytes.{keyed_bytes, keys_bytes, node_bytes, runner_bytes}
 use Rattle.runner_snapshot.specs.Bytes.{runners_bytes, state_bytes, text_bytes, track_bytes}
-use Rattle.runner_snapshot.specs.Bytes.{tracks_bytes, waiting_bytes}
+use Rattle.runner_snapshot.specs.Bytes.{tracks_bytes}
 use Rattle.runner_snapshot.specs.Dumps.{Runner, Node, Runners, Tracks, Keys, runner, atom, eps}
 use Rattle.runner_snapshot.specs.Dumps.{choice, split, iter, combine, apply, compose, collect}
 use Rattle.runner_snapshot.specs.Dumps.{no_runners, fed, no_tracks, track, no_keys, keyed}

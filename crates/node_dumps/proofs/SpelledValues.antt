@@ -1,5 +1,5 @@
 -- Values of a type whose bytes are few have bytes that can be read again.
-use Rattle.std.proofs.Common.{◌<◌, ◌≤◌, ◌^◌, ℕ, zero, suc, List, [], ◌∷◌, ◌++◌, Option, Some, None}
+use Rattle.std.proofs.Common.{◌<◌, ◌≤◌, ◌^◌, ℕ, suc, List, [], ◌∷◌, ◌++◌, Option, Some, None}
 use Rattle.std.proofs.Common.{length, subst, sym, arith}
 use Rattle.std.specs.List.{All, AllByRecursion, flat_map}
 use Rattle.std.proofs.lemmas.List.{length-append}
@@ -15,7 +15,8 @@ use Rattle.value_ops.specs.declared.value.ValueType.TheVariants.{Number, Rec, Ta
 use Rattle.eval_nodes.specs.Sound.{IsTyped}
 use Rattle.runner_snapshot.specs.Bytes.{answer_bytes, entry_bytes, in_eight, in_four, scalar_bytes}
 use Rattle.runner_snapshot.specs.Bytes.{text_bytes, value_bytes, waiting_bytes}
-use Rattle.runner_snapshot.specs.Ranges.{AreCounted, IsAnswer, IsTableEntry, IsValue, IsWaiting}
+use Rattle.runner_snapshot.specs.Ranges.{AreCounted, IsReadableAnswer, IsTableEntry, IsValue}
+use Rattle.runner_snapshot.specs.Ranges.{IsWaiting}
 use Rattle.runner_snapshot.specs.declared.entries.Entry.{Entry}
 use Rattle.eval_snapshot.specs.Fits.{FitsWaiting}
 
@@ -112,7 +113,7 @@ value_spelled Table (value.Scalar one) is few = absurd is
 value_spelled Table (value.Rec parts) is few = absurd is
 
 pub answer_spelled : (type : ValueType) (answer : Option Value) → IsTyped type answer
-    → AreFew (answer_bytes answer) → IsAnswer answer
+    → AreFew (answer_bytes answer) → IsReadableAnswer answer
 answer_spelled type None is few = tt
 answer_spelled type (Some one) is few = value_spelled type one is few
 

@@ -1,5 +1,6 @@
 pub mod Added
 pub mod Headed
+pub mod Kept
 pub mod KeyReads
 pub mod Readers
 pub mod ReadNumbers

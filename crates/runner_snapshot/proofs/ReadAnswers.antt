@@ -11,7 +11,7 @@ use Rattle.value_ops.specs.declared.value.Value.TheVariants as value
 use Rattle.runner_snapshot.specs.declared.tags.ValueTag.{ValueTag}
 use Rattle.runner_snapshot.specs.declared.tags.ValueTag.TheVariants as tag
 use Rattle.runner_snapshot.specs.Bytes.{value_bytes, answer_bytes}
-use Rattle.runner_snapshot.specs.Ranges.{IsAnswer}
+use Rattle.runner_snapshot.specs.Ranges.{IsReadableAnswer}
 use Rattle.runner_snapshot.specs.Reading.{Read, ◌>>=◌, answer_at, answer_of}
 use Rattle.runner_snapshot.specs.Reading.{made_at}
 use Rattle.runner_snapshot.specs.Reading.{scalar_of}
@@ -23,7 +23,7 @@ use Rattle.runner_snapshot.proofs.Readers.{alone_takes, tagged_takes}
 use Rattle.runner_snapshot.proofs.ReadValues.{known_value, value_after, value_again}
 
 abbrev SpelledAnswer : List ℕ → Option Value → List ℕ → Type 0
-SpelledAnswer bytes x rest = Takes bytes (answer_bytes x) rest × IsAnswer x
+SpelledAnswer bytes x rest = Takes bytes (answer_bytes x) rest × IsReadableAnswer x
 
 answer_from_value : (tag : ValueTag) (bytes : List ℕ) (x : Option Value) (rest : List ℕ)
     → IsBytes bytes → made_at Some (value_of (Some tag)) bytes ≡ Some (x, rest)
@@ -49,7 +49,7 @@ answer_after tag.Table bytes x rest are_bytes e =
     answer_from_value tag.Table bytes x rest are_bytes e
 answer_after tag.Rec bytes x rest are_bytes e = answer_from_value tag.Rec bytes x rest are_bytes e
 answer_after tag.Absent bytes x rest are_bytes e =
-    alone_takes None answer_bytes IsAnswer 255 refl tt bytes x rest are_bytes e
+    alone_takes None answer_bytes IsReadableAnswer 255 refl tt bytes x rest are_bytes e
 
 no_answer : (rest : List ℕ) → answer_of None rest ≡ None
 unfolding answer_of value_of scalar_of
@@ -59,7 +59,7 @@ answer_takes : (bytes : List ℕ) (x : Option Value) (rest : List ℕ) → IsByt
     → answer_at bytes ≡ Some (x, rest) → SpelledAnswer bytes x rest
 unfolding answer_at
 answer_takes bytes x rest are_bytes e =
-    tagged_takes value_tag value_byte known_value answer_of no_answer answer_bytes IsAnswer
+    tagged_takes value_tag value_byte known_value answer_of no_answer answer_bytes IsReadableAnswer
     answer_after bytes x rest are_bytes e
 
 -- an answer that is there is read as its value
@@ -73,7 +73,7 @@ answer_is_value (value.Scalar scalar.DivZero) rest = refl
 answer_is_value (value.Table held) rest = refl
 answer_is_value (value.Rec xs) rest = refl
 
-answer_again : (x : Option Value) (rest : List ℕ) → IsAnswer x
+answer_again : (x : Option Value) (rest : List ℕ) → IsReadableAnswer x
     → answer_at (answer_bytes x ++ rest) ≡ Some (x, rest)
 unfolding answer_at answer_of
 answer_again None rest is = refl
@@ -81,5 +81,5 @@ answer_again (Some x) rest is =
     answer_is_value x rest
     ∙ ap (λ (r : Read Value). r >>= λ y. Some (Some y.0, y.1)) (value_again x rest is)
 
-pub answers : Reads answer_bytes IsAnswer answer_at
+pub answers : Reads answer_bytes IsReadableAnswer answer_at
 answers = record { takes = answer_takes; again = answer_again }

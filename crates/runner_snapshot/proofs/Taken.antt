@@ -1,12 +1,14 @@
 -- One more of the elements of a list, as bytes.
 use Rattle.std.proofs.Common.{◌≡◌, ◌<◌, ◌+◌, ℕ, zero, suc, List, [], ◌∷◌, ◌++◌, take}
 use Rattle.std.proofs.Common.{Some}
-use Rattle.std.proofs.Common.{get_or, length, slice_get, refl, sym, ap, ◌∙◌, append_assoc, arith}
+use Rattle.std.proofs.Common.{get_or, length, slice_get, refl, sym, subst, ap, ◌∙◌, append_assoc}
+use Rattle.std.proofs.Common.{arith}
 use Rattle.std.specs.List.{flat_map}
 use Rattle.std.proofs.lemmas.List.{append-nil}
 use Rattle.std.proofs.lemmas.Option.{none-some, same_Some, slice_get_read}
 use Rattle.value_ops.specs.Entries.{keys_of, values_of}
 use Rattle.value_ops.specs.declared.scalar.Scalar.{Scalar}
+use Rattle.runner_snapshot.specs.Got.{Gets}
 
 flat_suc : {A : Type 0} (f : A → List ℕ) (xs : List A) (i : ℕ) (x : A) → slice_get xs i ≡ Some x
     → flat_map f (take (suc i) xs) ≡ flat_map f (take i xs) ++ f x
@@ -33,28 +35,32 @@ pair_read (entry ∷ rest) zero key scalar is_key is_scalar =
 pair_read (entry ∷ rest) (suc i) key scalar is_key is_scalar =
     pair_read rest i key scalar is_key is_scalar
 
--- one more of them is appended
-pub put_more : {A : Type 0} (f : A → List ℕ) (xs : List A) (i : ℕ) (x : A)
-    (before front so_far new : List ℕ) → slice_get xs i ≡ Some x
-    → so_far ≡ before ++ (front ++ flat_map f (take i xs)) → new ≡ so_far ++ f x
-    → new ≡ before ++ (front ++ flat_map f (take (i + 1) xs))
-put_more f xs i x before front so_far new is was more =
-    let taken : List ℕ = flat_map f (take i xs) in
-    more ∙ ap (λ (bytes : List ℕ). bytes ++ f x) was
-    ∙ append_assoc before (front ++ taken) (f x)
-    ∙ ap (λ (bytes : List ℕ). before ++ bytes) (append_assoc front taken (f x)
-    ∙ ap (λ (bytes : List ℕ). front ++ bytes) (sym (flat_more f xs i x is)))
+module _ {O : Type 0} (got : O → List ℕ → Type 0) where
+  -- bytes and then others
+  pub gets_both : (old so_far new : O) (a b : List ℕ) → Gets got old a so_far → Gets got so_far b new
+      → Gets got old (a ++ b) new
+  gets_both old so_far new a b first second = λ before is.
+      subst (got new) (append_assoc before a b) (second (before ++ a) (first before is))
 
--- the same where nothing stands in front of them, and of an element of a slice
-pub put_next : {A : Type 0} (f : A → List ℕ) (xs : List A) (i : ℕ) (x : A)
-    (before so_far new : List ℕ) → i < length xs → x ≡ get_or xs i x
-    → so_far ≡ before ++ flat_map f (take i xs) → new ≡ so_far ++ f x
-    → new ≡ before ++ flat_map f (take (i + 1) xs)
-put_next f xs i x before so_far new within is was more =
-    put_more f xs i x before [] so_far new (slice_get_read xs (length xs) i x refl within is) was
-    more
+  -- no bytes
+  pub gets_none : (old : O) → Gets got old [] old
+  gets_none old = λ before is. subst (got old) (sym (append-nil before)) is
 
--- three appended one after the other are appended as one
-pub three : (before a b c : List ℕ) → ((before ++ a) ++ b) ++ c ≡ before ++ ((a ++ b) ++ c)
-three before a b c =
-    ap (λ (bytes : List ℕ). bytes ++ c) (append_assoc before a b) ∙ append_assoc before (a ++ b) c
+  -- one more of the elements
+  pub put_more : {A : Type 0} (f : A → List ℕ) (xs : List A) (i : ℕ) (x : A) (front : List ℕ)
+      (old so_far new : O) → slice_get xs i ≡ Some x
+      → Gets got old (front ++ flat_map f (take i xs)) so_far → Gets got so_far (f x) new
+      → Gets got old (front ++ flat_map f (take (i + 1) xs)) new
+  put_more f xs i x front old so_far new is was more =
+      let taken : List ℕ = flat_map f (take i xs) in
+      subst (λ (bytes : List ℕ). Gets got old bytes new)
+      (append_assoc front taken (f x)
+      ∙ ap (λ (bytes : List ℕ). front ++ bytes) (sym (flat_more f xs i x is)))
+      (gets_both old so_far new (front ++ taken) (f x) was more)
+
+  -- the same where nothing stands in front of them, and of an element of a slice
+  pub put_next : {A : Type 0} (f : A → List ℕ) (xs : List A) (i : ℕ) (x : A) (old so_far new : O)
+      → i < length xs → x ≡ get_or xs i x → Gets got old (flat_map f (take i xs)) so_far
+      → Gets got so_far (f x) new → Gets got old (flat_map f (take (i + 1) xs)) new
+  put_next f xs i x old so_far new within is was more =
+      put_more f xs i x [] old so_far new (slice_get_read xs (length xs) i x refl within is) was more

@@ -1,6 +1,5 @@
 -- The bytes of the lists of a dump are those of what their vectors have.
-use Rattle.std.proofs.Common.{◌≡◌, ℕ, List, [], ◌∷◌, ◌++◌, map, refl, sym, ap, ◌∙◌}
-use Rattle.std.proofs.Common.{append_assoc}
+use Rattle.std.proofs.Common.{◌≡◌, ℕ, List, [], ◌∷◌, ◌++◌, map, refl, sym, subst, ap, ◌∙◌}
 use Rattle.std.specs.List.{flat_map}
 use Rattle.std.specs.Vec.{vec_len}
 use Rattle.runner_snapshot.specs.declared.keys.KeyDumps as keys
@@ -8,6 +7,7 @@ use Rattle.runner_snapshot.specs.declared.runners.Runners as runners
 use Rattle.runner_snapshot.specs.declared.tracks.TrackDumps as tracks
 use Rattle.runner_snapshot.specs.Bytes.{fed_bytes, in_four, keyed_bytes, keys_bytes, runners_bytes}
 use Rattle.runner_snapshot.specs.Bytes.{track_bytes, tracks_bytes}
+use Rattle.runner_snapshot.specs.Got.{Gets}
 use Rattle.runner_snapshot.specs.Plain.{keys_of, plain_keys, plain_runners, plain_tracks}
 use Rattle.runner_snapshot.specs.Plain.{runners_of}
 use Rattle.runner_snapshot.specs.Plain.{tracks_of}
@@ -17,6 +17,7 @@ use Rattle.runner_snapshot.proofs.ReadNodes.{keyed_texts, track_back, track_text
 use Rattle.runner_snapshot.proofs.Rows.{fed_of, keyed_of, keys_are, runners_are, seen_count}
 use Rattle.runner_snapshot.proofs.Rows.{track_of}
 use Rattle.runner_snapshot.proofs.Rows.{tracks_are}
+use Rattle.runner_snapshot.proofs.Taken.{gets_both}
 
 -- what is seen of each, and of that the bytes
 flat_map-map : {A B C : Type 0} (f : B → List C) (seen : A → B) (xs : List A)
@@ -66,12 +67,11 @@ tracks_written starts =
     ∙ ap (flat_map track_text) list ∙ flat_map-map track_text track_of held.items)
 
 -- a count and then what it counts
-pub list_written : (old counted new : List ℕ) (count len : ℕ) (bytes held whole : List ℕ)
-    → counted ≡ old ++ in_four count → count ≡ len → bytes ≡ held → whole ≡ in_four len ++ held
-    → new ≡ counted ++ bytes → new ≡ old ++ whole
-list_written old counted new count len bytes held whole counts is same all more =
-    more ∙ ap (λ (front : List ℕ). front ++ bytes) counts
-    ∙ append_assoc old (in_four count) bytes
-    ∙ ap (λ (n : ℕ). old ++ (in_four n ++ bytes)) is
-    ∙ ap (λ (rest : List ℕ). old ++ (in_four len ++ rest)) same
-    ∙ ap (λ (rest : List ℕ). old ++ rest) (sym all)
+pub list_written : {O : Type 0} (got : O → List ℕ → Type 0) (old counted new : O) (count len : ℕ)
+    (bytes held whole : List ℕ) → Gets got old (in_four count) counted → count ≡ len → bytes ≡ held
+    → whole ≡ in_four len ++ held → Gets got counted bytes new → Gets got old whole new
+list_written got old counted new count len bytes held whole counts is same all more =
+    subst (λ (written : List ℕ). Gets got old written new)
+    (ap (λ (n : ℕ). in_four n ++ bytes) is
+    ∙ ap (λ (rest : List ℕ). in_four len ++ rest) same ∙ sym all)
+    (gets_both got old counted new (in_four count) bytes counts more)

@@ -2,6 +2,7 @@ pub mod Adding
 pub mod Dumps
 pub mod Plain
 pub mod Bytes
+pub mod Got
 pub mod Ranges
 pub mod Tags
 pub mod Reading

@@ -44,8 +44,8 @@ IsValue (value.Table entries) = AreCounted IsTableEntry entries × HasDistinctKe
 IsValue (value.Rec parts) = IsRecordSize (length parts) × AllByRecursion IsScalar parts
 
 -- an answer
-abbrev pub IsAnswer : Option Value → Type 0
-IsAnswer answer = MatchOption answer (Unit {0}) IsValue
+abbrev pub IsReadableAnswer : Option Value → Type 0
+IsReadableAnswer answer = MatchOption answer (Unit {0}) IsValue
 
 -- a state
 abbrev pub IsState : State → Type 0
@@ -58,7 +58,7 @@ IsWaiting entry = IsPlace entry.inner × IsPlace entry.outer × IsValue entry.va
 
 -- a runner whose node is one of these
 abbrev pub IsRunnerWith : (Node → Type 0) → Runner → Type 0
-IsRunnerWith P (runner position answer node) = IsPlace position × IsAnswer answer × P node
+IsRunnerWith P (runner position answer node) = IsPlace position × IsReadableAnswer answer × P node
 
 -- the same with its start
 abbrev pub IsFedWith : (Node → Type 0) → Fed → Type 0

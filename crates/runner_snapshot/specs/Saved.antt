@@ -4,4 +4,4 @@ use Rattle.runner_snapshot.specs.Bytes.{Snapshot, snapshot_with}
 use Rattle.runner_snapshot.specs.Plain.{plain_runner}
 
 abbrev pub snapshot_of : Saved → Snapshot
-snapshot_of saved = snapshot_with saved.text saved.began (plain_runner saved.dump)
+snapshot_of saved = snapshot_with saved.text saved.began (plain_runner saved.dump.value)

@@ -1,9 +1,11 @@
 //! Where what follows a word of a query stands.
 
 ghost use Rattle.std.specs.Prelude.{◌≡◌, ◌++◌, OnOk};
+ghost use Rattle.runner_snapshot.specs.Got.{Gets};
 
 use crate::entries::Entries;
 use crate::number_bytes::put_number;
+use crate::output::Output;
 use crate::runners::Runners;
 use crate::starts::Starts;
 use crate::tags::NodeTag;
@@ -51,9 +53,8 @@ impl RunnerDump {
 
     /// Appends the bytes of the dump.
     #[cycle(write)]
-    pub(crate) fn write(&self, out: &mut Vec<u8>) -> Result<(), AllocError>
-        ensures { OnOk result
-            (out.new.items ≡ out.old.items ++ runner_bytes (plain_runner self.now)) }
+    pub(crate) fn write<O: Output>(&self, out: &mut O) -> Result<(), AllocError>
+        ensures { OnOk result (Gets O.got out.old (runner_bytes (plain_runner self.now)) out.new) }
     {
         put_number(self.position, out)?;
         put_answer(&self.answer, out)?;
@@ -84,10 +85,10 @@ impl NodeDump {
 
     // Appends the tag, and what comes after it.
     #[cycle(write)]
-    fn write(&self, out: &mut Vec<u8>) -> Result<(), AllocError>
-        ensures { OnOk result (out.new.items ≡ out.old.items ++ node_bytes (plain_node self.now)) }
+    fn write<O: Output>(&self, out: &mut O) -> Result<(), AllocError>
+        ensures { OnOk result (Gets O.got out.old (node_bytes (plain_node self.now)) out.new) }
     {
-        out.extend_from_slice(&[self.tag().byte()])?;
+        out.put(&[self.tag().byte()])?;
         match self {
             NodeDump::Atom(starts) => starts.write(out),
             NodeDump::Eps => Ok(()),

@@ -1,7 +1,9 @@
 //! A list of values that wait.
 ghost use Rattle.std.specs.Prelude.{◌≡◌, ◌<◌, ◌++◌, [], ◌∷◌, length, slice_get, Some, OnOk, OnErr};
+ghost use Rattle.runner_snapshot.specs.Got.{Gets};
 
 use crate::number_bytes::{put_count, put_number};
+use crate::output::Output;
 use crate::value_bytes::put_value;
 use std::alloc::{AllocError, Global};
 use std::marker::Model;
@@ -34,9 +36,8 @@ impl Entries {
     ghost use Rattle.std.specs.List.{flat_map};
     ghost use Rattle.runner_snapshot.specs.Bytes.{entries_bytes, waiting_bytes};
 
-    fn put_all(entries: &[Entry], out: &mut Vec<u8>) -> Result<(), AllocError>
-        ensures { OnOk result
-            (out.new.items ≡ out.old.items ++ flat_map waiting_bytes entries.now) }
+    fn put_all<O: Output>(entries: &[Entry], out: &mut O) -> Result<(), AllocError>
+        ensures { OnOk result (Gets O.got out.old (flat_map waiting_bytes entries.now) out.new) }
     {
         'entries: for entry in entries {
             put_number(entry.inner, out)?;
@@ -85,8 +86,8 @@ impl Entries {
     }
 
     /// Appends the entries after their count.
-    pub(crate) fn write(&self, out: &mut Vec<u8>) -> Result<(), AllocError>
-        ensures { OnOk result (out.new.items ≡ out.old.items ++ entries_bytes self.now) }
+    pub(crate) fn write<O: Output>(&self, out: &mut O) -> Result<(), AllocError>
+        ensures { OnOk result (Gets O.got out.old (entries_bytes self.now) out.new) }
     {
         put_count(self.entries.len(), out)?;
         Entries::put_all(&self.entries, out)

@@ -1,15 +1,14 @@
 //! Followers that can be kept in a snapshot.
-ghost use Rattle.std.specs.Prelude.{◌≡◌, ◌≤◌, ◌^◌, false, List, IfErr, IfOk};
+ghost use Rattle.std.specs.Prelude.{◌≡◌, ◌≤◌, ◌^◌, false, List, IfErr, IfOk, length};
 ghost use Rattle.item_schema.specs.declared.column.Column.{Column};
-ghost use Rattle.language_base.specs.Limits.{max_nodes};
-ghost use Rattle.query_model.specs.Bounds.{nodes_of};
 ghost use Rattle.query_model.specs.Checked.{CheckedQuery, IsChecked};
 ghost use Rattle.query_model.specs.Queries.{Qre, plain_of};
 ghost use Rattle.rate_expr.specs.Words.{Word};
+ghost use Rattle.runner_snapshot.specs.Bytes.{runner_bytes};
 ghost use Rattle.runner_snapshot.specs.Dumps.{Runner, position_of};
 ghost use Rattle.runner_snapshot.specs.Plain.{plain_runner};
 ghost use Rattle.runner_snapshot.specs.Ranges.{IsRunner};
-ghost use Rattle.runner_snapshot.specs.Stops.{IsUnfit};
+ghost use Rattle.runner_snapshot.specs.Stops.{IsUnfit, max_snapshot};
 
 use crate::{RunnerDump, SnapStop};
 use query_model::{Checked, Follower};
@@ -23,7 +22,7 @@ pub trait Keepable<'q>: Follower {
     /// What stands so fits the query on a stream of these columns.
     ghost fits: { List Column → Qre → Runner → Type 0 };
 
-    /// What stands so follows the word.
+    /// What stands so follows the word, which is one of the stream.
     ghost means: { List Column → Qre → Runner → Word → Type 0 };
 
     fn dump(&self, alloc: Global) -> Result<RunnerDump, AllocError>
@@ -40,6 +39,7 @@ pub trait Keepable<'q>: Follower {
             × (Self.columns follower ≡ checked.now.layout.columns)) }
         ensures found { IfOk result (λ follower. (Self.lost follower ≡ false)
             × (Self.position follower ≡ position_of (plain_runner dump.now))) }
+        ensures sound { IfOk result (λ follower. Self.sound follower) }
         ensures fit { IfOk result (λ follower. fits checked.now.layout.columns
             (plain_of checked.now.main.shape) (plain_runner dump.now)) }
         ensures unfit { IfErr result (IsUnfit (fits checked.now.layout.columns
@@ -54,8 +54,16 @@ pub trait Keepable<'q>: Follower {
         → means on.layout.columns (plain_of on.main.shape) dump word
         → position_of dump ≤ 2 ^ 62 → fits on.layout.columns (plain_of on.main.shape) dump };
 
-    /// Its bytes can be read again.
-    ghost stands_spelled: { (follower : Self) (word : Word) → Self.follows follower word
-        → nodes_of (Self.query follower) ≤ max_nodes → Self.position follower ≤ 2 ^ 62
-        → IsRunner (stands follower) };
+    /// It stands as far as the follower is.
+    ghost stands_at: { (follower : Self)
+        → position_of (stands follower) ≡ Self.position follower };
+
+    /// What fits is at most at 2^62.
+    ghost fits_early: { (columns : List Column) (query : Qre) (dump : Runner)
+        → fits columns query dump → position_of dump ≤ 2 ^ 62 };
+
+    /// What fits a checked query has bytes that can be read again, if a snapshot may have as many.
+    ghost fits_spelled: { (on : CheckedQuery) (dump : Runner) → IsChecked on
+        → fits on.layout.columns (plain_of on.main.shape) dump
+        → length (runner_bytes dump) ≤ max_snapshot → IsRunner dump };
 }

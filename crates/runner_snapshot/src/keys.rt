@@ -1,8 +1,10 @@
 //! A list of runners by their keys.
 ghost use Rattle.std.specs.Prelude.{◌≡◌, ◌<◌, ◌++◌, [], ◌∷◌, length, slice_get, Some, OnOk, OnErr};
+ghost use Rattle.runner_snapshot.specs.Got.{Gets};
 
 use crate::RunnerDump;
 use crate::number_bytes::{put_count, put_text};
+use crate::output::Output;
 use std::alloc::{AllocError, Global};
 use value_ops::Bytes;
 
@@ -65,8 +67,8 @@ impl KeyDumps {
     }
 
     #[cycle(write)]
-    fn put_all(keys: &[KeyDump], out: &mut Vec<u8>) -> Result<(), AllocError>
-        ensures { OnOk result (out.new.items ≡ out.old.items ++ flat_map key_bytes keys.now) }
+    fn put_all<O: Output>(keys: &[KeyDump], out: &mut O) -> Result<(), AllocError>
+        ensures { OnOk result (Gets O.got out.old (flat_map key_bytes keys.now) out.new) }
     {
         'keys: for keyed in keys {
             put_text(keyed.key.as_slice(), out)?;
@@ -77,8 +79,8 @@ impl KeyDumps {
 
     /// Appends the runners after their count.
     #[cycle(write)]
-    pub(crate) fn write(&self, out: &mut Vec<u8>) -> Result<(), AllocError>
-        ensures { OnOk result (out.new.items ≡ out.old.items ++ keys_bytes (plain_keys self.now)) }
+    pub(crate) fn write<O: Output>(&self, out: &mut O) -> Result<(), AllocError>
+        ensures { OnOk result (Gets O.got out.old (keys_bytes (plain_keys self.now)) out.new) }
     {
         put_count(self.keys.len(), out)?;
         KeyDumps::put_all(&self.keys, out)

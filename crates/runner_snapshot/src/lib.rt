@@ -10,6 +10,7 @@ mod keys;
 mod laws;
 mod node_reader;
 mod number_bytes;
+mod output;
 mod reader;
 mod reading;
 mod resuming;

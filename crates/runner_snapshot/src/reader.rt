@@ -4,13 +4,12 @@ ghost use Rattle.runner_snapshot.specs.Reading.{bytes_at, byte_at, flag_at, Give
 ghost use Rattle.runner_snapshot.specs.Reading.{number_at, query_text_at, signed_at, state_at};
 ghost use Rattle.runner_snapshot.specs.Reading.{text_at};
 
+use crate::number_bytes::HALF;
 use crate::{Flaw, SnapStop};
 use rate_expr::State;
 
 // A query text has at most this many bytes.
 const MAX_TEXT: usize = 65536;
-
-const HALF: u128 = 1 << 64;
 
 /// The bytes that are still to be read.
 #[derive(Drop)]
@@ -48,11 +47,7 @@ impl<'a> Reader<'a> {
         ensures { Gives (λ count. count) result self.new.rest.now
             (number_at w32 self.old.rest.now) }
     {
-        if self.rest.len() < 4 {
-            return Err(SnapStop::Bad(Flaw::Form));
-        }
-        let (front, rest) = self.rest.split_at(4);
-        self.rest = rest;
+        let front = self.bytes(4)?;
         Ok(u32::from_be_bytes([front[0], front[1], front[2], front[3]]))
     }
 
@@ -61,11 +56,7 @@ impl<'a> Reader<'a> {
         ensures { Gives (λ number. number) result self.new.rest.now
             (number_at w64 self.old.rest.now) }
     {
-        if self.rest.len() < 8 {
-            return Err(SnapStop::Bad(Flaw::Form));
-        }
-        let (front, rest) = self.rest.split_at(8);
-        self.rest = rest;
+        let front = self.bytes(8)?;
         Ok(u64::from_be_bytes([
             front[0], front[1], front[2], front[3], front[4], front[5], front[6], front[7],
         ]))

@@ -1,10 +1,10 @@
 //! Reads snapshots.
-ghost use Rattle.std.specs.Prelude.{◌≡◌, ◌++◌, IfErr, IfNone, IfOk, IfSome};
+ghost use Rattle.std.specs.Prelude.{◌≡◌, ◌≤◌, ◌++◌, IfErr, IfNone, IfOk, IfSome, length};
 ghost use Rattle.runner_snapshot.specs.Bytes.{head, snapshot_bytes};
 ghost use Rattle.runner_snapshot.specs.Ranges.{IsSnapshot};
 ghost use Rattle.runner_snapshot.specs.Reading.{body_at, Gives};
 ghost use Rattle.runner_snapshot.specs.Saved.{snapshot_of};
-ghost use Rattle.runner_snapshot.specs.Stops.{HasHead, IsStopOf};
+ghost use Rattle.runner_snapshot.specs.Stops.{HasHead, IsStopOf, max_snapshot};
 
 use crate::node_reader::MAX_LEVELS;
 use crate::reader::Reader;
@@ -33,7 +33,7 @@ impl Reader<'_> {
     {
         let text = Bytes::from_slice(alloc, self.query_text()?)?;
         let began = self.flag()?;
-        let dump = self.runner(alloc, MAX_LEVELS)?;
+        let dump = Box::new(alloc, self.runner(alloc, MAX_LEVELS)?)?;
         Ok(Saved::new(text, began, dump))
     }
 }
@@ -42,6 +42,7 @@ impl Reader<'_> {
 pub fn read_saved(alloc: Global, bytes: &[u8]) -> Result<Saved, SnapStop>
     ensures read { IfOk result (λ saved. IsSnapshot (snapshot_of saved)
         × (bytes.now ≡ snapshot_bytes (snapshot_of saved))) }
+    ensures few { IfOk result (λ _. length bytes.now ≤ max_snapshot) }
     ensures stopped { IfErr result (IsStopOf bytes.now) }
 {
     if bytes.len() > MAX_SNAPSHOT {

@@ -24,6 +24,7 @@ pub fn resume<'q, R: Keepable<'q>>(
         × (R.columns follower ≡ checked.now.layout.columns)) }
     ensures found { IfOk result (λ follower. (R.lost follower ≡ false)
         × (R.position follower ≡ position_of (snapshot_of saved.now).dump)) }
+    ensures sound { IfOk result (λ follower. R.sound follower) }
     ensures fit { IfOk result (λ follower. R.fits checked.now.layout.columns
         (plain_of checked.now.main.shape) (snapshot_of saved.now).dump) }
     ensures unfit { IfErr result (IsUnfit (R.fits checked.now.layout.columns

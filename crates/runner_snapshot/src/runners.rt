@@ -1,8 +1,10 @@
 //! A list of runners by their starts.
 ghost use Rattle.std.specs.Prelude.{◌≡◌, ◌<◌, ◌++◌, [], ◌∷◌, length, slice_get, Some, OnOk, OnErr};
+ghost use Rattle.runner_snapshot.specs.Got.{Gets};
 
 use crate::RunnerDump;
 use crate::number_bytes::{put_count, put_number};
+use crate::output::Output;
 use std::alloc::{AllocError, Global};
 
 /// A runner with the start that feeds it.
@@ -61,9 +63,8 @@ impl Runners {
     }
 
     #[cycle(write)]
-    fn put_all(instances: &[Instance], out: &mut Vec<u8>) -> Result<(), AllocError>
-        ensures { OnOk result
-            (out.new.items ≡ out.old.items ++ flat_map instance_bytes instances.now) }
+    fn put_all<O: Output>(instances: &[Instance], out: &mut O) -> Result<(), AllocError>
+        ensures { OnOk result (Gets O.got out.old (flat_map instance_bytes instances.now) out.new) }
     {
         'instances: for instance in instances {
             put_number(instance.outer, out)?;
@@ -74,9 +75,9 @@ impl Runners {
 
     /// Appends the runners after their count.
     #[cycle(write)]
-    pub(crate) fn write(&self, out: &mut Vec<u8>) -> Result<(), AllocError>
+    pub(crate) fn write<O: Output>(&self, out: &mut O) -> Result<(), AllocError>
         ensures { OnOk result
-            (out.new.items ≡ out.old.items ++ runners_bytes (plain_runners self.now)) }
+            (Gets O.got out.old (runners_bytes (plain_runners self.now)) out.new) }
     {
         put_count(self.runners.len(), out)?;
         Runners::put_all(&self.runners, out)

@@ -9,7 +9,7 @@ use value_ops::Bytes;
 pub struct Saved {
     text: Bytes,
     began: bool,
-    dump: RunnerDump,
+    dump: Box<RunnerDump>,
 }
 
 impl Saved {
@@ -17,8 +17,8 @@ impl Saved {
     ghost use Rattle.runner_snapshot.specs.Plain.{plain_runner};
     ghost use Rattle.runner_snapshot.specs.Saved.{snapshot_of};
 
-    pub(crate) fn new(text: Bytes, began: bool, dump: RunnerDump) -> Saved
-        ensures { snapshot_of result ≡ snapshot_with text began (plain_runner dump) }
+    pub(crate) fn new(text: Bytes, began: bool, dump: Box<RunnerDump>) -> Saved
+        ensures { snapshot_of result ≡ snapshot_with text began (plain_runner dump.value) }
     {
         Saved { text, began, dump }
     }

@@ -2,8 +2,10 @@
 ghost use Rattle.std.specs.Prelude.{◌≡◌, ◌<◌, ◌++◌, [], ◌∷◌, length, slice_get, Some, OnOk, OnErr};
 ghost use Rattle.std.specs.List.{flat_map};
 ghost use Rattle.runner_snapshot.specs.Bytes.{in_eight, starts_bytes};
+ghost use Rattle.runner_snapshot.specs.Got.{Gets};
 
 use crate::number_bytes::put_number;
+use crate::output::Output;
 use std::alloc::{AllocError, Global};
 use std::marker::Model;
 
@@ -21,8 +23,8 @@ impl Model for Starts {
     ghost view = { λ s. s.starts.items };
 }
 
-fn put_starts(starts: &[u64], out: &mut Vec<u8>) -> Result<(), AllocError>
-    ensures { OnOk result (out.new.items ≡ out.old.items ++ flat_map in_eight starts.now) }
+fn put_starts<O: Output>(starts: &[u64], out: &mut O) -> Result<(), AllocError>
+    ensures { OnOk result (Gets O.got out.old (flat_map in_eight starts.now) out.new) }
 {
     'starts: for &start in starts {
         put_number(start, out)?;
@@ -63,10 +65,10 @@ impl Starts {
     }
 
     /// Appends the starts after their count in one byte; an atom has at most one.
-    pub(crate) fn write(&self, out: &mut Vec<u8>) -> Result<(), AllocError>
-        ensures { OnOk result (out.new.items ≡ out.old.items ++ starts_bytes self.now) }
+    pub(crate) fn write<O: Output>(&self, out: &mut O) -> Result<(), AllocError>
+        ensures { OnOk result (Gets O.got out.old (starts_bytes self.now) out.new) }
     {
-        out.extend_from_slice(&self.starts.len().to_be_bytes()[7..])?;
+        out.put(&self.starts.len().to_be_bytes()[7..])?;
         put_starts(&self.starts, out)
     }
 }

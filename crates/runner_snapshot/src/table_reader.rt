@@ -2,7 +2,7 @@
 ghost use Rattle.std.specs.Prelude.{◌≡◌, OnOk};
 ghost use Rattle.value_ops.specs.Entries.{keys_of};
 ghost use Rattle.runner_snapshot.specs.Adding.{Adds};
-ghost use Rattle.runner_snapshot.specs.Reading.{entries_at, Gives};
+ghost use Rattle.runner_snapshot.specs.Reading.{entries_at, Gives, more_entries_at};
 
 use crate::reader::Reader;
 use crate::{Flaw, SnapStop};
@@ -31,6 +31,25 @@ fn add_entry(
 }
 
 impl Reader<'_> {
+    // So many entries more for a table; the names are the keys that stand in it.
+    fn entries_of(
+        &mut self,
+        count: u32,
+        table: &mut Table,
+        names: &mut IndexSet<Bytes>,
+    ) -> Result<(), SnapStop>
+        requires names { names.old.keys ≡ keys_of table.old }
+        ensures { Gives (λ _. table.new) result self.new.rest.now
+            (more_entries_at table.old count self.old.rest.now) }
+    {
+        'entries: for _ in 0..count {
+            let key = self.text()?;
+            let scalar = self.scalar()?;
+            add_entry(table, names, key, scalar)?;
+        }
+        Ok(())
+    }
+
     #[tactic(auto, unfolding(crate::specs::Reading::entries_at))]
     pub(crate) fn table(&mut self, alloc: Global) -> Result<Table, SnapStop>
         ensures { Gives (λ table. table) result self.new.rest.now (entries_at self.old.rest.now) }
@@ -38,11 +57,7 @@ impl Reader<'_> {
         let count = self.count()?;
         let mut table = Table::new(alloc);
         let mut names = IndexSet::new(alloc);
-        'entries: for _ in 0..count {
-            let key = self.text()?;
-            let scalar = self.scalar()?;
-            add_entry(&mut table, &mut names, key, scalar)?;
-        }
+        self.entries_of(count, &mut table, &mut names)?;
         Ok(table)
     }
 }

@@ -1,7 +1,9 @@
 //! A list of the live starts of a collect.
 ghost use Rattle.std.specs.Prelude.{◌≡◌, ◌<◌, ◌++◌, [], ◌∷◌, length, slice_get, Some, OnOk, OnErr};
+ghost use Rattle.runner_snapshot.specs.Got.{Gets};
 
 use crate::number_bytes::{put_count, put_number, put_state};
+use crate::output::Output;
 use crate::{KeyDumps, RunnerDump, State};
 use std::alloc::{AllocError, Global};
 
@@ -84,8 +86,8 @@ impl TrackDumps {
     }
 
     #[cycle(write)]
-    fn put_all(tracks: &[TrackDump], out: &mut Vec<u8>) -> Result<(), AllocError>
-        ensures { OnOk result (out.new.items ≡ out.old.items ++ flat_map start_bytes tracks.now) }
+    fn put_all<O: Output>(tracks: &[TrackDump], out: &mut O) -> Result<(), AllocError>
+        ensures { OnOk result (Gets O.got out.old (flat_map start_bytes tracks.now) out.new) }
     {
         'tracks: for track in tracks {
             put_number(track.start, out)?;
@@ -98,9 +100,8 @@ impl TrackDumps {
 
     /// Appends the starts after their count.
     #[cycle(write)]
-    pub(crate) fn write(&self, out: &mut Vec<u8>) -> Result<(), AllocError>
-        ensures { OnOk result
-            (out.new.items ≡ out.old.items ++ tracks_bytes (plain_tracks self.now)) }
+    pub(crate) fn write<O: Output>(&self, out: &mut O) -> Result<(), AllocError>
+        ensures { OnOk result (Gets O.got out.old (tracks_bytes (plain_tracks self.now)) out.new) }
     {
         put_count(self.tracks.len(), out)?;
         TrackDumps::put_all(&self.tracks, out)

@@ -361,9 +361,9 @@ node_fits standing columns (query.collect chosen sync rate f) node word starts c
     apart stands = absurd stands
 
 pub means_fit : (on : CheckedQuery) (dump : Runner) (word : Word) → IsChecked on
-    → IsWordOf on.layout.columns word → Means on.layout.columns (plain_of on.main.shape) dump word
+    → Means on.layout.columns (plain_of on.main.shape) dump word
     → position_of dump ≤ max_position → Fits on.layout.columns (plain_of on.main.shape) dump
-means_fit on (runner position answer node) word checked is (after, answers, stands) few =
+means_fit on (runner position answer node) word checked (is, (after, answers, stands)) few =
     let columns = on.layout.columns in
     let q = plain_of on.main.shape in (
       few,

@@ -13,10 +13,10 @@ ghost use Rattle.eval_snapshot.specs.Fits.{Fits, max_position};
 ghost use Rattle.eval_snapshot.specs.Means.{Means};
 ghost use Rattle.snapshot_laws.specs.Runners.{HasItsRunners};
 
-/// Whatever word a runner follows, what is kept of it stands for the word.
+/// Whatever word of its stream a runner follows, what is kept of it stands for the word.
 pub fn what_is_kept_stands_for_the_words_of_its_runner()
     ensures { (columns : List Column) (query : Qre) (word : Word) (runner : Progress)
-        → FollowsWord seen_of columns query word runner
+        → IsWordOf columns word → FollowsWord seen_of columns query word runner
         → Means columns query (dumped seen_of query runner) word }
 {}
 
@@ -32,7 +32,6 @@ pub fn runners_follow_the_words_of_their_dumps()
 /// What stands for a word of a checked query fits, if the word is not too long.
 pub fn what_stands_for_a_word_fits()
     ensures { (on : CheckedQuery) (dump : Runner) (word : Word) → IsChecked on
-        → IsWordOf on.layout.columns word
         → Means on.layout.columns (plain_of on.main.shape) dump word
         → position_of dump ≤ max_position
         → Fits on.layout.columns (plain_of on.main.shape) dump }

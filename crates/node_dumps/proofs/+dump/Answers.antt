@@ -12,7 +12,7 @@ use Rattle.eval_nodes.proofs.Same.{same_query}
 use Rattle.runner_snapshot.specs.Plain.{keys_of, plain_keys, plain_node, plain_runner}
 use Rattle.runner_snapshot.specs.Plain.{plain_runners, plain_tracks, runners_of, tracks_of}
 use Rattle.eval_snapshot.specs.Dumped.{dumped, dumped_node}
-use Rattle.node_dumps.proofs.DumpLists.{fed_put, keyed_all, keyed_put, track_put}
+use Rattle.node_dumps.proofs.DumpLists.{fed_put, keyed_put, track_put}
 use Rattle.node_dumps.proofs.DumpParts.{collect_dumped, compose_dumped, dumped_for}
 use Rattle.node_dumps.proofs.+dump.Goals as goal
 

@@ -4,9 +4,9 @@ use Rattle.runner_snapshot.proofs.Taken.{put_more}
 use Rattle.runner_snapshot.proofs.value_bytes.put_parts.Goals as goal
 
 pub parts-preserved : goal.parts-preserved
-parts-preserved c = (
-  put_more scalar_bytes c.args.parts.now c.parts.place c.part.result c.args.out.now.items
-      (length c.args.parts.now ∷ []) c.parts.out.items c.put_scalar.new.out.items c.part.ensures
-      c.parts.invariant.0 c.in_ok-put_scalar.ensures,
+parts-preserved g c = (
+  put_more g.O.Output.got scalar_bytes c.args.parts.now c.parts.place c.part.result
+      (length c.args.parts.now ∷ []) c.args.out.now c.parts.out c.put_scalar.new.out
+      c.part.ensures c.parts.invariant.0 c.in_ok-put_scalar.ensures,
   c.len-place-end.ensures.len,
 )

@@ -4,4 +4,4 @@ use Rattle.snapshot_laws.proofs.laws.runners_follow_the_words_of_their_dumps.Goa
 
 pub returns : goal.returns
 returns c = λ columns query word runner sound its is.
-    follows seen_of columns query runner word sound.node its is
+    follows seen_of columns query runner word sound.node its is.1
