@@ -1,0 +1,9 @@
+pub mod Advancing
+pub mod Kept
+pub mod Opened
+pub mod Resuming
+pub mod Saving
+pub mod Standing
+pub mod Stopped
+pub mod Texts
+pub mod Written
