@@ -1,0 +1,4 @@
+pub mod GoingOn
+pub mod Judging
+pub mod LastLines
+pub mod Reading

@@ -1,0 +1,10 @@
+pub mod Call
+pub mod Commands
+pub mod Concluded
+pub mod Exits
+pub mod GoingOn
+pub mod LastLines
+pub mod Past
+pub mod Saving
+pub mod SourceRead
+pub mod Verdicts
