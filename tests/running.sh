@@ -11,7 +11,7 @@ test_release() {
     (with_rt "$top/.ci/build" && with_rt "$top/.ci/release") 2>/dev/null
     holds 'the release is what was built' with_rt "$top/.ci/release" --check >/dev/null 2>&1
     make_program release >"$room/kit/sqre"
-    for name in explain expand shard; do
+    for name in explain expand shard snapshot; do
         make_explanation release >"$room/kit/$name"
     done
     fresh="$room/a folder/clone"
@@ -57,7 +57,7 @@ status 0' "$(answer with_rt "$fresh/sqre" which)"
 status 0' "$(answer without_rt "$fresh/sqre" which)"
     forget
     same 'it is proved all the same' 'status 0' "$(answer with_rt "$fresh/sqre" --prove)"
-    same 'it is proved all the same: what rt was asked' 'ci low sqre aside explain expand shard;' "$(asked)"
+    same 'it is proved all the same: what rt was asked' 'ci low sqre aside explain expand shard snapshot;' "$(asked)"
     if [ "$(awk '/^MemAvailable:/ { print int($2 / 4000000) }' /proc/meminfo)" -ge "$(nproc)" ]; then
         same 'crates are proved side by side' "$(nproc)" "$(sed -n 's/^beside //p' "$RT_LOG")"
     else
@@ -154,7 +154,7 @@ test_statuses() {
     for status in 0 1 2 3 4 5 6 7 8 9; do
         same "status $status" "status $status" "$(answer without_rt "$fresh/sqre" exit "$status")"
         case $status in
-            [01258]) ;;
+            [0125]) ;;
             *) holds "status $status has a sentence" [ -s "$room/errors" ] ;;
         esac
     done
@@ -185,6 +185,7 @@ test_install() {
 installed $folder/sqre-explain
 installed $folder/sqre-expand
 installed $folder/sqre-shard
+installed $folder/sqre-snapshot
 installed $folder/sqre-templates
 installed $folder/sqre
 status 0" "$(answer without_rt "$fresh/sqre" --install "$folder")"
@@ -210,6 +211,7 @@ status 1' "$(answer without_rt "$folder/sqre" check "$room/bad.sqre")"
 installed $room/anew/sqre-explain
 installed $room/anew/sqre-expand
 installed $room/anew/sqre-shard
+installed $room/anew/sqre-snapshot
 installed $room/anew/sqre-templates
 installed $room/anew/sqre
 status 0" "$(answer without_rt "$folder/sqre" --install "$room/anew")"

@@ -1,6 +1,6 @@
 #!/bin/sh
-# Tests the exit statuses of ./sqre, and the sentences beside them. No input is long enough for 7, and there is no 8: of these two
-# running.sh tests what the script makes.
+# Tests the exit statuses of ./sqre, and the sentences beside them. No input is long enough for 7: of this running.sh tests what the
+# script makes; of 8, which snapshots alone have, saved.sh.
 here=$(readlink -f -- "$0") || exit 1
 here=${here%/tests/*}
 # shellcheck source=/dev/null
