@@ -1,5 +1,4 @@
 mod Copies
-mod Fillings
 mod Handings
 mod Pieces
 pub mod LineLaws
