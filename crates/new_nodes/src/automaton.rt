@@ -15,8 +15,8 @@ use std::alloc::{AllocError, Global};
 use std::rc::Rc;
 use symbolic_nfa::Nfa;
 
-/// The automaton, without a start yet.
-pub(crate) fn no_tracks(
+/// The automaton, without a start yet. Where there is a collect, there are cells.
+pub fn no_tracks(
     alloc: Global,
     rate: &Rate,
     cells: Option<&Rc<Cells>>,

@@ -172,7 +172,8 @@ module _ {R : Type 0} (seen : R → Seen R) where
         sound = λ columns position on fits. let inner = derived_columns (type_of columns f) in (
           first.sound columns position on fits.0,
           subst AreDifferent (sym (zip_same (IsRestoredFed seen g) (λ (dump : Fed). dump.outer)
-              (λ (one : Instance R). one.outer) fs held.live (λ dump one is. is.outer) live)) fits.2,
+              (λ (one : Instance R). one.outer) fs held.live (λ dump one is. is.outer) live))
+              fits.2,
           full,
           zip_all (IsRestoredFed seen g) (FitsFed (FitsNode inner g) (type_of inner g) position)
               (λ (one : Instance R). IsSoundWithin seen

@@ -1,5 +1,5 @@
--- Statement. What of a dump that fits is asked where it is put back: it has the query's shape, there
--- is room for its lists, nothing stands twice in one of them, and its states have positions of their
+-- Statement. What of a dump that fits is asked where it is put back: it has the query's shape, its
+-- lists have room, nothing stands twice in one of them, and its states have positions of their
 -- rates.
 use Rattle.std.specs.Prelude.{◌≤◌, ℕ, ◌+◌, List, length, map}
 use Rattle.std.specs.List.{AllByRecursion, IsDistinct}

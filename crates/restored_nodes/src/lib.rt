@@ -1,7 +1,6 @@
 //! What follows a word of a query is put back from a dump.
 #![tactic(auto)]
 
-mod automaton;
 mod entries;
 mod keys;
 mod nodes;

@@ -18,10 +18,10 @@ ghost use Rattle.restored_nodes.specs.Cells.{CanBePutBack};
 ghost use Rattle.restored_nodes.specs.Restored.{IsRestoredTrack};
 ghost use Rattle.restored_nodes.specs.Rooms.{HasRoom, HaveKeyRoom};
 
-use crate::automaton::no_tracks;
 use crate::keys::restored_keys;
 use eval_nodes::Progress;
 use map_collect::Tracks;
+use new_nodes::no_tracks;
 use predicate_cells::Cells;
 use query_model::Query;
 use rate_expr::Rate;

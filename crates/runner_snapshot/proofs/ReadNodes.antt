@@ -21,7 +21,8 @@ use Rattle.runner_snapshot.specs.Dumps.{choice, split, iter, combine, apply, com
 use Rattle.runner_snapshot.specs.Dumps.{no_runners, fed, no_tracks, track, no_keys, keyed}
 use Rattle.runner_snapshot.specs.Dumps.{Fed, Keyed, Track, fed_list, keyed_list, track_list}
 use Rattle.runner_snapshot.specs.Dumps.{all_fed, all_keyed, all_tracks}
-use Rattle.runner_snapshot.specs.Ranges.{AreCounted, IsReadableAnswer, IsPlace, IsShort, IsState, IsValue}
+use Rattle.runner_snapshot.specs.Ranges.{AreCounted, IsPlace, IsReadableAnswer, IsShort, IsState}
+use Rattle.runner_snapshot.specs.Ranges.{IsValue}
 use Rattle.runner_snapshot.specs.Ranges.{IsWaiting, IsRunnerWith, IsFedWith, IsKeyedWith}
 use Rattle.runner_snapshot.specs.Ranges.{IsTrackWith, IsNodeWith, IsNode}
 use Rattle.runner_snapshot.specs.Reading.{Read, ◌>>=◌, byte_at, counted_at, number_at}
@@ -195,10 +196,10 @@ module _ (P : Node → Type 0) (f : List ℕ → Read Node) (nodes : Reads node_
       (λ p. runner p.0.0 p.0.1 p.1) parts_of runner_bytes (IsRunnerWith P) whole_runner
       (λ p are. refl) (λ p are. (are.0.0, are.0.1, are.1)) runner_parts
       (both (λ (p : ℕ × Option Value). in_eight p.0 ++ answer_bytes p.1)
-      (λ (p : ℕ × Option Value). IsPlace p.0 × IsReadableAnswer p.1) (pair_at (number_at w64) answer_at)
-      node_bytes P f
-      (both in_eight IsPlace (number_at w64) answer_bytes IsReadableAnswer answer_at number64 answers)
-      nodes)
+      (λ (p : ℕ × Option Value). IsPlace p.0 × IsReadableAnswer p.1)
+      (pair_at (number_at w64) answer_at) node_bytes P f
+      (both in_eight IsPlace (number_at w64) answer_bytes IsReadableAnswer answer_at number64
+      answers) nodes)
 
   fed_one : Reads fed_text (IsFedWith P) (fed_at f)
   unfolding fed_at

@@ -37,8 +37,8 @@ pair_read (entry ∷ rest) (suc i) key scalar is_key is_scalar =
 
 module _ {O : Type 0} (got : O → List ℕ → Type 0) where
   -- bytes and then others
-  pub gets_both : (old so_far new : O) (a b : List ℕ) → Gets got old a so_far → Gets got so_far b new
-      → Gets got old (a ++ b) new
+  pub gets_both : (old so_far new : O) (a b : List ℕ) → Gets got old a so_far
+      → Gets got so_far b new → Gets got old (a ++ b) new
   gets_both old so_far new a b first second = λ before is.
       subst (got new) (append_assoc before a b) (second (before ++ a) (first before is))
 
@@ -63,4 +63,5 @@ module _ {O : Type 0} (got : O → List ℕ → Type 0) where
       → i < length xs → x ≡ get_or xs i x → Gets got old (flat_map f (take i xs)) so_far
       → Gets got so_far (f x) new → Gets got old (flat_map f (take (i + 1) xs)) new
   put_next f xs i x old so_far new within is was more =
-      put_more f xs i x [] old so_far new (slice_get_read xs (length xs) i x refl within is) was more
+      put_more f xs i x [] old so_far new (slice_get_read xs (length xs) i x refl within is) was
+      more

@@ -1,8 +1,8 @@
 //! Why a snapshot is refused.
 use std::alloc::{AllocError, AllocFailed};
 
-/// What is wrong with a snapshot. Its form is asked for before its query: first `Long`, then `Head`,
-/// `Form`, `Query` and `Unfit`.
+/// What is wrong with a snapshot. Its form is asked for before its query: first `Long`, then
+/// `Head`, `Form`, `Query` and `Unfit`.
 #[derive(Clone, Copy, Debug, PartialEq, Eq)]
 pub enum Flaw {
     /// It has too many bytes.

@@ -31,7 +31,7 @@ pub use keepable::Keepable;
 pub use keys::KeyDumps;
 pub use laws::snapshots_have_one_spelling;
 pub use rate_expr::State;
-pub use reading::read_saved;
+pub use reading::{MAX_SNAPSHOT, read_saved};
 pub use resuming::resume;
 pub use runners::Runners;
 pub use saved::Saved;

@@ -13,7 +13,7 @@ use std::alloc::Global;
 use value_ops::Bytes;
 
 /// The bytes of a snapshot, at the most.
-pub(crate) const MAX_SNAPSHOT: usize = 67_108_864;
+pub const MAX_SNAPSHOT: usize = 67_108_864;
 
 /// What each snapshot begins with.
 pub(crate) const HEAD: [u8; 8] = [b'S', b'Q', b'R', b'E', b'0', b'0', b'0', b'1'];

@@ -24,7 +24,7 @@ use Rattle.stream_run.specs.Output.{value_after}
 use Rattle.stream_run.specs.Replies.{IsReply}
 use Rattle.stream_run.specs.Resumed.{layout_after, meaning_after}
 use Rattle.stream_run.specs.Sessions.{FollowsFrom, FollowsOn, IsAfter, IsReady, IsReplyTo, Origin}
-use Rattle.stream_run.specs.Sessions.{RepliesTo, Takes, awaits_header, layout_from, origin_of}
+use Rattle.stream_run.specs.Sessions.{RepliesTo, Takes, awaits_header, layout_from}
 use Rattle.stream_run.specs.Sessions.{read_by, text_of}
 use Rattle.stream_run.specs.declared.session.Reply.{Reply}
 use Rattle.stream_run.specs.declared.session.Reply.TheVariants.{Answered, Silent, Skipped}

@@ -10,11 +10,11 @@ use Rattle.value_ops.specs.declared.value.Value.{Value}
 use Rattle.item_schema.specs.Layout.{Layout}
 use Rattle.item_drill.specs.Lines.{bytes_of, header_of, names_of, row_of}
 use Rattle.rate_expr.specs.Words.{Word, IsWordOf}
-use Rattle.query_model.specs.Checked.{IsChecked, CheckedQuery}
+use Rattle.query_model.specs.Checked.{CheckedQuery}
 use Rattle.query_model.specs.Following.{IsAnswer}
 use Rattle.query_model.specs.Monitors.{monitor_of}
 use Rattle.query_model.specs.Queries.{Qre, plain_of}
-use Rattle.query_model.specs.Rules.{free}
+use Rattle.query_model.specs.Rules.{free, IsClear}
 use Rattle.stream_run.specs.Drilling.{drilled_lines}
 use Rattle.stream_run.specs.Meanings.{IsMeaning, Meaning}
 use Rattle.stream_run.specs.Output.{body_of, item_in, items_of, read_of, value_after}
@@ -121,20 +121,21 @@ next_taken follows old new bytes shown are (Err error) took = tt
 
 -- the answer after lines is the value after them
 pub answer_after : {F : Type 0} (follows : F → Word → Type 0) (query : F → Qre) (on : CheckedQuery)
-    (first : F) (shown : List Shown) (session : Session F) (answer : Option Value) → IsChecked on
+    (first : F) (shown : List Shown) (session : Session F) (answer : Option Value)
+    → IsClear free on.layout.columns (plain_of on.main.shape)
     → follows first [] → IsAfter follows (first_origin on first) shown session
     → query session.follower ≡ plain_of session.checked.now.main.shape
     → ((word : Word) → follows session.follower word
     → IsAnswer (query session.follower) word answer)
     → (meaning : Meaning) → IsMeaning (monitor_of on) meaning → answer ≡ value_after meaning shown
-answer_after follows query on first shown session answer checked none holds_after query_is
+answer_after follows query on first shown session answer clear none holds_after query_is
     answers meaning means =
     let items = items_of on.layout shown in
     let asked : query session.follower ≡ plain_of on.main.shape =
     query_is ∙ ap (λ (o : CheckedQuery). plain_of o.main.shape) holds_after.same
     in
     one_answer free on.layout.columns (plain_of on.main.shape) items answer (meaning.value items)
-    checked.clear holds_after.is_word
+    clear holds_after.is_word
     (subst (λ (q : Qre). IsAnswer q items answer) asked
     (answers items (holds_after.carries [] none)))
     (means.value items holds_after.is_word)

@@ -116,7 +116,8 @@ keys::put_keys-keys-preserved t c =
           ∙ ap (λ (names : List (List ℕ)). names ++ one.key ∷ []) before.1
           ∙ sym (take_one (map (λ (dump : Keyed). dump.key) dumps) c.keys.i one.key
           (part_read (λ (dump : Keyed). dump.key) dumps c.keys.i one c.get.ensures)),
-      zip_more (λ (dump : Keyed) (r : Progress). IsRestoredRunner seen_of None q dump.runner r) dumps
+      zip_more (λ (dump : Keyed) (r : Progress). IsRestoredRunner seen_of None q dump.runner r)
+          dumps
           c.keys.i one (followers_of c.keys.keys) (followers_of c.add.new.self) _ c.get.ensures
           before.2 c.in_ok-runner.ensures
           (ap (λ (keyed : Followers Progress). keyed.followers) put),
@@ -144,7 +145,8 @@ pub keys::restored_keys-returns-in-Ok : goal.keys::restored_keys-returns-in-Ok
 keys::restored_keys-returns-in-Ok t c = record {
   fallback = subst
       (IsRestoredRunner seen_of None (plain_of c.args.query.now.shape)
-      (plain_runner c.args.fallback.now)) (sym (c.put_keys.ensures.fallback ∙ c.new-keys.ensures.fallback))
+      (plain_runner c.args.fallback.now))
+      (sym (c.put_keys.ensures.fallback ∙ c.new-keys.ensures.fallback))
       c.in_ok-fallback.ensures;
   names = c.in-Ok.ensures.names;
   keyed = c.in-Ok.ensures.keyed;

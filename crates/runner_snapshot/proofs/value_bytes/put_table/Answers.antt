@@ -10,8 +10,8 @@ entries-preserved g c =
     let key = c.key.result.now in
     let scalar = c.value.result in
     let entry : List ℕ × Scalar = (key, scalar) in (
-      put_more got entry_bytes c.args.table.now c.entries.i entry (in_four (length c.args.table.now))
-          c.args.out.now c.entries.out c.put_scalar.new.out
+      put_more got entry_bytes c.args.table.now c.entries.i entry
+          (in_four (length c.args.table.now)) c.args.out.now c.entries.out c.put_scalar.new.out
           (pair_read c.args.table.now c.entries.i key scalar c.key.ensures c.value.ensures)
           c.entries.invariant.0
           (gets_both got _ _ _ (text_bytes key) (scalar_bytes scalar) c.in_ok-put_text.ensures

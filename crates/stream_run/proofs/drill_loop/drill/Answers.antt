@@ -76,7 +76,7 @@ items-preserved g c =
       tally = λ meaning means.
           let is = answer_after f.follows f.query on c.args.follower
           (drilled_lines layout (count + 1) seed) c.take_next.new.session answer
-          c.schema.ensures.checked c.requires.word after
+          c.schema.ensures.checked.clear c.requires.word after
           c.in_ok-take_next.ensures.ready.query_is c.answer.ensures.answer meaning means
           in
           let tally = tally_next meaning layout means.layout c.requires.drillable.some
@@ -111,7 +111,7 @@ returns g c =
     c.drill_text.ensures
     (λ line reported meaning means.
     let is = answer_after f.follows f.query on c.args.follower (drilled_lines layout count seed)
-    c.items.session answer c.schema.ensures.checked c.requires.word kept.after kept.ready.query_is
+    c.items.session answer c.schema.ensures.checked.clear c.requires.word kept.after kept.ready.query_is
     c.answer-2.ensures.answer meaning means
     in
     reported_of_bytes meaning layout count seed c.items.defined answer means.layout
