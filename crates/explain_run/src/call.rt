@@ -9,10 +9,8 @@ ghost use Rattle.explain_run.specs.Call.{Outcome, Reported};
 use crate::Status;
 use crate::query::explanation_of;
 use io_edge::{Failed, Sink, Source, TakeStop, read_to_limit, write_all};
+use query_compiler::MAX_READ;
 use std::alloc::{AllocError, Global};
-
-/// The most bytes that are read of a query, as a run of it reads them.
-const MAX_READ: usize = 65_537;
 
 /// Reads the query as a run of it does and, if it is refused, writes and flushes an explanation.
 /// The query is called `name` there.

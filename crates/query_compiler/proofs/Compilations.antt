@@ -3,23 +3,26 @@ use Rattle.std.proofs.Common.{◌≡◌, ◌<◌, ◌≤◌, ◌⊎◌, inl, inr
 use Rattle.std.proofs.Common.{Option, Some, None, IfSome, sym, ap, subst, ◌∙◌, append-nil}
 use Rattle.std.proofs.Common.{length-append, arith}
 use Rattle.std.specs.Io.KnownBytes.{Consumes, IsAtEnd}
-use Rattle.std.specs.Prelude.{Box}
-use Rattle.std.specs.declared.alloc.Global.{Global}
 use Rattle.language_base.specs.Limits.{max_text}
 use Rattle.language_base.specs.declared.refusal.Refusal.{Refusal}
 use Rattle.language_base.specs.declared.rule.Rule.TheVariants as rule
 use Rattle.query_forms.specs.Terms.{Terms}
+use Rattle.query_model.specs.Monitors.{Monitor}
 use Rattle.query_parser.specs.Reading.{IsFileOf, long, refusal}
 use Rattle.query_parser.proofs.OneReading.{one_file, file_or_refused, one_refusal}
 use Rattle.query_syntax.specs.Files.{program_terms}
 use Rattle.query_syntax.specs.Programs.{Program}
 use Rattle.query_syntax.proofs.OneProgram.{one_program}
-use Rattle.type_checker.specs.Judged.{IsJudged, Verdict, refused}
+use Rattle.type_checker.specs.Judged.{IsJudged, Verdict, accepted, refused}
+use Rattle.type_checker.specs.Blames.{refusal_of}
+use Rattle.type_checker.specs.declared.blame.Blame.{Blame}
+use Rattle.type_checker.proofs.Judging.{blame_refused}
 use Rattle.type_checker.proofs.Verdicts.{one_verdict}
 use Rattle.query_compiler.specs.Compiled.{Compiles, judged, unread}
-use Rattle.query_compiler.specs.Stops.{IsBlamedIn, IsJudgmentAt, IsRefusedBy}
-use Rattle.type_checker.specs.declared.blame.Blame.{Blame}
-use Rattle.type_checker.specs.declared.judgment.Judgment.TheVariants.{Ambiguous}
+use Rattle.query_compiler.specs.Stops.{IsBlamedIn, IsRefusedBy, IsStopOf}
+use Rattle.query_compiler.specs.declared.query.QueryStop.{QueryStop}
+use Rattle.query_compiler.specs.declared.query.QueryStop.TheVariants.{Failed, Refused, Ambiguous}
+use Rattle.query_compiler.specs.declared.query.QueryStop.TheVariants.{Memory}
 
 -- a text is compiled to one verdict
 pub one_query : (text : List ℕ) (one other : Verdict) → Compiles text one
@@ -35,6 +38,12 @@ one_query text _ _ (unread why refuses) (judged p v file is) =
 one_query text _ _ (unread why refuses) (unread why' refuses') =
     ap refused (one_refusal text why why' refuses refuses')
 
+-- a text whose query is blamed is refused
+pub blame_refuses : (text : List ℕ) (blame : Blame) → IsBlamedIn (Some text) blame
+    → Compiles text (refused (refusal_of blame))
+blame_refuses text blame (program, is, file) =
+    judged program (refused (refusal_of blame)) file (blame_refused program blame is)
+
 -- one number is at most the other, or above it
 one_more : (m n : ℕ) → (m ≤ n) ⊎ (n < m) → (suc m ≤ suc n) ⊎ (suc n < suc m)
 one_more m n (inl h) = inl (omega arith)
@@ -48,6 +57,13 @@ le_or_lt (suc m) (suc n) = one_more m n (le_or_lt m n)
 -- a file is not too long
 file_short : (text : List ℕ) (terms : Terms) → IsFileOf text terms → length text ≤ max_text
 file_short text terms file = file.has.has.has.has.short
+
+-- nor is a text that is compiled to a query
+pub compiled_short : (text : List ℕ) (verdict : Verdict) (monitor : Monitor)
+    → verdict ≡ accepted monitor → Compiles text verdict → length text ≤ max_text
+compiled_short text _ monitor is (judged program verdict file was) =
+    file_short text (program_terms program) file
+compiled_short text _ monitor is (unread why broken) = absurd (cc)
 
 -- a text that is too long is compiled to its refusal, and so is each that is too long
 too_long : (text bytes : List ℕ) (verdict : Verdict) → max_text < length text
@@ -79,7 +95,7 @@ reported_query (Some text) (Some rest) bytes verdict read whole compiles =
         too_long text bytes verdict longer h compiles
 
 -- so by a refusal
-pub reported_refusal : (left left' : Option (List ℕ)) (bytes : List ℕ) (why : Refusal)
+reported_refusal : (left left' : Option (List ℕ)) (bytes : List ℕ) (why : Refusal)
     → Consumes left left' bytes → (length bytes ≤ max_text → IsAtEnd left') → IsRefusedBy why bytes
     → IfSome left (IsRefusedBy why)
 reported_refusal None left' bytes why read whole is = tt
@@ -100,8 +116,19 @@ reported_file (Some text) (Some rest) bytes terms read whole file =
     subst (λ (t : List ℕ). IsFileOf t terms) same file
 
 -- so it is blamed as they are
-pub reported_blame : (left left' : Option (List ℕ)) (bytes : List ℕ) (blame : Box Blame Global)
+reported_blame : (left left' : Option (List ℕ)) (bytes : List ℕ) (blame : Blame)
     → Consumes left left' bytes → (length bytes ≤ max_text → IsAtEnd left')
-    → IsJudgmentAt bytes (Ambiguous blame) → IsBlamedIn left blame.value
+    → IsBlamedIn (Some bytes) blame → IsBlamedIn left blame
 reported_blame left left' bytes blame read whole (program, is, file) =
     (program, is, reported_file left left' bytes (program_terms program) read whole file)
+
+-- why the bytes read give no query is why the whole text gives none
+pub reported_stop : (left left' : Option (List ℕ)) (bytes : List ℕ) (why : QueryStop)
+    → Consumes left left' bytes → (length bytes ≤ max_text → IsAtEnd left')
+    → IsStopOf (Some bytes) why → IsStopOf left why
+reported_stop left left' bytes (Refused refusal) read whole is =
+    reported_refusal left left' bytes refusal read whole is
+reported_stop left left' bytes (Ambiguous blame) read whole is =
+    reported_blame left left' bytes blame.value read whole is
+reported_stop left left' bytes Failed read whole is = tt
+reported_stop left left' bytes Memory read whole is = tt

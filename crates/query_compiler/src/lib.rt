@@ -5,4 +5,4 @@ mod laws;
 mod query;
 
 pub use laws::one_query_per_text;
-pub use query::{QueryStop, compile};
+pub use query::{MAX_READ, QueryStop, compile, compile_text};

@@ -1,5 +1,5 @@
 //! The query: read from its source and compiled.
-ghost use Rattle.std.specs.Prelude.{◌≡◌, Err, IfOk, IfErr, IfSome, OnOk};
+ghost use Rattle.std.specs.Prelude.{◌≡◌, Err, IfOk, IfErr, IfSome, OnOk, Some};
 ghost use Rattle.io_edge.specs.Counts.{FailsBy, Rose};
 ghost use Rattle.query_compiler.specs.Compiled.{Compiles, KeepsRules};
 ghost use Rattle.item_drill.specs.Drillable.{IsDrillable};
@@ -17,7 +17,7 @@ use std::alloc::{AllocError, Global};
 use type_checker::{Blame, Judgment, judge};
 
 /// The most bytes that are read of a query: one more than a query may have.
-const MAX_READ: usize = 65_537;
+pub const MAX_READ: usize = 65_537;
 
 /// Why there is no query to run.
 #[derive(Drop)]
@@ -43,12 +43,23 @@ pub fn compile<Q: Source>(alloc: Global, query: &mut Q) -> Result<Box<Checked>, 
     ensures cause { FailsBy (Q.faults query.old) (Q.faults query.new)
         (result ≡ Err QueryStop.Failed) }
 {
-    let text = match read_to_limit(alloc, query, MAX_READ) {
-        Ok(text) => text,
-        Err(TakeStop::Failed) => return Err(QueryStop::Failed),
-        Err(TakeStop::Memory) => return Err(QueryStop::Memory),
-    };
-    match compile_text(alloc, text.as_slice()) {
+    match read_to_limit(alloc, query, MAX_READ) {
+        Ok(text) => compile_text(alloc, text.as_slice()),
+        Err(TakeStop::Failed) => Err(QueryStop::Failed),
+        Err(TakeStop::Memory) => Err(QueryStop::Memory),
+    }
+}
+
+/// Compiles a query whose text is in memory.
+pub fn compile_text(alloc: Global, text: &[u8]) -> Result<Box<Checked>, QueryStop>
+    ensures accepted { IfOk result (λ compiled.
+        Compiles text.now (accepted (monitor_of compiled.value))) }
+    ensures kept { IfOk result (λ compiled. KeepsRules (monitor_of compiled.value)) }
+    ensures drillable { IfOk result (λ compiled. IsDrillable compiled.value.layout) }
+    ensures refused { IfErr result (IsStopOf (Some text.now)) }
+    ensures no_fault { result ≡ Err QueryStop.Failed → ⊥ }
+{
+    match judge_text(alloc, text) {
         Ok(Judgment::Accepted(checked)) => {
             // Its accessors say that it keeps the rules.
             let _schema = checked.schema();
@@ -60,8 +71,8 @@ pub fn compile<Q: Source>(alloc: Global, query: &mut Q) -> Result<Box<Checked>, 
     }
 }
 
-// Compiles a text.
-fn compile_text(alloc: Global, text: &[u8]) -> Result<Judgment, AllocError>
+// The judgment on a text, which is refused, too, where it is no program.
+fn judge_text(alloc: Global, text: &[u8]) -> Result<Judgment, AllocError>
     ensures { IfOk result (IsJudgmentAt text.now) }
 {
     let program = match read_syntax(alloc, text) {

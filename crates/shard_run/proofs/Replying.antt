@@ -1,14 +1,11 @@
 -- The replies to commands that ask for a query of a collect.
-use Rattle.std.proofs.Common.{◌≡◌, ◌∙◌, ◌≤◌, ℕ, List, Option, Some, None, Result, Ok, Err, IfOk}
-use Rattle.std.proofs.Common.{refl, ap, subst, arith}
+use Rattle.std.proofs.Common.{◌≡◌, ℕ, List, Option, Some, None, Result, Ok, Err, IfOk}
+use Rattle.std.proofs.Common.{refl, subst}
 use Rattle.std.specs.Option.{option_map}
 use Rattle.language_base.specs.declared.span.Span.{Span}
-use Rattle.key_shards.specs.Collections.{Collection, collection_in, shard_of}
-use Rattle.key_shards.specs.Parted.{IsTooLarge}
-use Rattle.query_model.specs.Bounds.{slots_of}
+use Rattle.key_shards.specs.Collections.{Collection, collection_in}
 use Rattle.query_model.specs.Monitors.{Monitor}
 use Rattle.query_model.specs.Queries.{Qre}
-use Rattle.query_model.specs.Sizes.{max_slots}
 use Rattle.shard_run.specs.Pieces.{IsRefusal, IsReplyFor, query_of, whole}
 use Rattle.shard_run.specs.Texts.{whole_text}
 use Rattle.shard_run.specs.Verdicts.{IsAccepted}
@@ -22,15 +19,6 @@ pub made_of_none : (found : Option Collection) (of : Collection → Qre) → Non
     → found ≡ None
 made_of_none None of is = refl
 made_of_none (Some given) of is = absurd (cc)
-
--- a query of a shard that is made keeps few slots
-pub made_small : (query made : Qre) → Some made ≡ option_map shard_of (collection_in query)
-    → slots_of made ≤ max_slots → IsTooLarge query → ⊥
-made_small query made is few (given, found, none, many) =
-    let both : Some made ≡ Some (shard_of given) = is ∙ ap (option_map shard_of) found in
-    let same : made ≡ shard_of given = cc in
-    let less = subst (λ q. slots_of q ≤ max_slots) same few in
-    omega (arith, less, many)
 
 module _ (piece : Piece) (monitor : Monitor) (place : Span) where
   -- a line that refuses whatever text is accepted so

@@ -10,11 +10,9 @@ use crate::engine::carry_out;
 use crate::judged::{Judged, judge_text};
 use crate::reply::{refused, write_reply};
 use io_edge::{Sink, Source, TakeStop, read_to_limit};
+use query_compiler::MAX_READ;
 use std::alloc::{AllocError, Global};
 use stream_run::Status;
-
-/// The most bytes that are read of a query, as a run of it reads them.
-const MAX_READ: usize = 65_537;
 
 /// Does what the words after the program's name ask for. `part QUERY` writes the text of the query
 /// of a shard, and `mask QUERY` that of the mask. `route QUERY SHARDS ITEMS` writes for every line
