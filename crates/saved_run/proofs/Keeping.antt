@@ -15,7 +15,7 @@ use Rattle.stream_run.specs.Sessions.{IsAfter, Origin}
 use Rattle.stream_run.specs.declared.session.Session.{Session}
 use Rattle.stream_run.proofs.CutLines.{begun-lines}
 use Rattle.saved_run.specs.Kept.{AreSavedOf, IsKept}
-use Rattle.saved_run.specs.Saving.{IsSavedAfter}
+use Rattle.saved_run.specs.Saving.{IsSavedAfter, IsSnapshotOf}
 
 module _ (means : Runner → Word → Type 0) (follows : Word → Type 0) (position : ℕ) (dump : Runner)
     (text : List ℕ) (began : Bool) (stands : (word : Word) → follows word → means dump word)
@@ -25,11 +25,14 @@ module _ (means : Runner → Word → Type 0) (follows : Word → Type 0) (posit
       → ((word : Word) → follows word → length bytes ≤ max_snapshot → position ≤ 2 ^ 62
       → IsSnapshot (snapshot_with text began dump))
       → AreSavedOf means follows text began bytes
-  saved_word bytes is spelled word followed = record {
-    dump = dump;
-    stands = stands word followed;
-    bytes_are = is;
-    spelled = λ few short. spelled word followed few (omega (arith, at word followed, short));
+  saved_word bytes is spelled = record {
+    is_snapshot = (dump, is);
+    after = λ word followed. record {
+      dump = dump;
+      stands = stands word followed;
+      bytes_are = is;
+      spelled = λ few short. spelled word followed few (omega (arith, at word followed, short));
+    };
   }
 
   -- and so is what was made of it
@@ -65,15 +68,23 @@ kept_so P Q so (Err (Bad Form)) kept = absurd kept
 kept_so P Q so (Err (Bad Unfit)) kept = absurd kept
 kept_so P Q so (Err Memory) kept = tt
 
--- what is kept of a session after lines is a snapshot after their items
-pub saved_after : {F : Type 0} (follows : F → Word → Type 0) (means : Runner → Word → Type 0)
-    (origin : Origin F) (session : Session F) (text items bytes : List ℕ) (word : Word)
-    → IsAfter follows origin (lines items true) session → follows origin.follower word
-    → AreSavedOf means (follows session.follower) text session.began bytes
-    → IsSavedAfter means text (origin.began || is_some_byte items)
-    (word ++ items_after origin.on.layout origin.began items) bytes
-saved_after follows means origin session text items bytes word after followed saved =
-    let all = word ++ items_after origin.on.layout origin.began items in
-    subst (λ (b : Bool). IsSavedAfter means text b all bytes)
-    (after.began_is ∙ ap (λ (b : Bool). origin.began || b) (begun-lines items))
-    (saved all (after.carries word followed))
+module _ {F : Type 0} (follows : F → Word → Type 0) (means : Runner → Word → Type 0)
+    (origin : Origin F) (session : Session F) (text items bytes : List ℕ)
+    (after : IsAfter follows origin (lines items true) session)
+    (saved : AreSavedOf means (follows session.follower) text session.began bytes) where
+  -- after the lines of bytes a line has come if one had come before or there are bytes
+  begun : session.began ≡ (origin.began || is_some_byte items)
+  begun = after.began_is ∙ ap (λ (b : Bool). origin.began || b) (begun-lines items)
+
+  -- what is kept of a session after lines is a snapshot that says so
+  pub snapshot_is : IsSnapshotOf text (origin.began || is_some_byte items) bytes
+  snapshot_is = subst (λ (b : Bool). IsSnapshotOf text b bytes) begun saved.is_snapshot
+
+  -- and it is one after their items
+  pub saved_after : (word : Word) → follows origin.follower word
+      → IsSavedAfter means text (origin.began || is_some_byte items)
+      (word ++ items_after origin.on.layout origin.began items) bytes
+  saved_after word followed =
+      let all = word ++ items_after origin.on.layout origin.began items in
+      subst (λ (b : Bool). IsSavedAfter means text b all bytes) begun
+      (saved.after all (after.carries word followed))

@@ -1,6 +1,6 @@
 -- What is said of a run from where a follower stands, as said of the snapshot that it was made of.
 use Rattle.std.proofs.Common.{◌≡◌, ℕ, Bool, true, false, List, [], Option, Some, None, IfSome}
-use Rattle.std.proofs.Common.{Ok, inl, refl, ap, subst, ◌∙◌}
+use Rattle.std.proofs.Common.{inl, refl, ap, subst, ◌∙◌}
 use Rattle.std.proofs.KnownBytes.{Appends-nil, Consumes-nil}
 use Rattle.io_edge.specs.Lines.{Shown, lines}
 use Rattle.query_model.specs.Checked.{CheckedQuery}
@@ -10,7 +10,7 @@ use Rattle.rate_expr.specs.Words.{Word}
 use Rattle.runner_snapshot.specs.Bytes.{Snapshot}
 use Rattle.runner_snapshot.specs.Dumps.{Runner}
 use Rattle.stream_run.specs.Endings.{EndedBy, Writes}
-use Rattle.stream_run.specs.Replies.{AreReplies, AreRepliesTo}
+use Rattle.stream_run.specs.Replies.{AreReplies}
 use Rattle.stream_run.specs.Output.{body_of}
 use Rattle.stream_run.specs.Resumed.{layout_after}
 use Rattle.stream_run.specs.Outside.{Outside}
@@ -19,7 +19,7 @@ use Rattle.stream_run.specs.declared.session.Session.{Session}
 use Rattle.stream_run.specs.declared.status.Status.{Status}
 use Rattle.stream_run.specs.declared.status.Status.TheVariants.{Done, Refused, Usage, QueryFault}
 use Rattle.stream_run.specs.declared.status.Status.TheVariants.{ItemFault, SinkFault, Memory, Limit}
-use Rattle.saved_run.specs.Resuming.{IsSaidFrom, Resumes}
+use Rattle.saved_run.specs.Resuming.{IsSaidFrom}
 
 -- what holds of bytes that are known, where it follows from another fact
 pub known_so : (left : Option (List ℕ)) (P Q : List ℕ → Type 0)
@@ -128,10 +128,3 @@ module _ (means : Runner → Word → Type 0) (monitor : Monitor) (snapshot : Sn
       wrote = ([], none_said, Appends-nil old.taken);
     },
   )
-
-  -- the dump fits, and the run ended so
-  pub resumes_with : (fits : Runner → Type 0) (old new : Outside) (status : Status)
-      → fits snapshot.dump → EndedBy (IsSaidFrom means monitor snapshot) status old new
-      → Resumes fits means monitor snapshot (Ok status) old new
-  resumes_with fits old new Memory fit ended = ended
-  resumes_with fits old new status fit ended = (fit, ended)

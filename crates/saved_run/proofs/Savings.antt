@@ -1,8 +1,8 @@
 -- What a run that is saved did.
-use Rattle.std.proofs.Common.{◌≡◌, ℕ, Bool, true, false, List, [], Option, Some, None, IfSome}
-use Rattle.std.proofs.Common.{Result, Ok, Err, inl, inr, refl, sym, subst}
+use Rattle.std.proofs.Common.{◌≡◌, ℕ, true, List, [], Option, Some, None, IfSome}
+use Rattle.std.proofs.Common.{Result, Ok, Err, inr, sym, subst}
 use Rattle.io_edge.specs.Counts.{next_count}
-use Rattle.io_edge.specs.Lines.{Shown, lines}
+use Rattle.io_edge.specs.Lines.{lines}
 use Rattle.item_schema.specs.Layout.{Layout}
 use Rattle.query_model.specs.Checked.{CheckedQuery}
 use Rattle.rate_expr.specs.Words.{Word}
@@ -11,13 +11,11 @@ use Rattle.runner_snapshot.specs.declared.flaw.Flaw.{Flaw}
 use Rattle.runner_snapshot.specs.declared.flaw.Flaw.TheVariants.{Long, Head, Query, Form, Unfit}
 use Rattle.runner_snapshot.specs.declared.flaw.SnapStop.{SnapStop}
 use Rattle.runner_snapshot.specs.declared.flaw.SnapStop.TheVariants as stop
-use Rattle.stream_run.specs.Endings.{EndedBy}
 use Rattle.stream_run.specs.Outside.{Outside}
 use Rattle.stream_run.specs.Sessions.{IsAfter, Origin, first_origin}
 use Rattle.stream_run.specs.declared.session.Session.{Session}
 use Rattle.stream_run.specs.declared.status.Status.{Status}
-use Rattle.stream_run.specs.declared.status.Status.TheVariants.{Done, Refused, Usage, QueryFault}
-use Rattle.stream_run.specs.declared.status.Status.TheVariants.{ItemFault, SinkFault, Memory, Limit}
+use Rattle.stream_run.specs.declared.status.Status.TheVariants.{Done, SinkFault, Memory}
 use Rattle.saved_run.specs.Kept.{AreSavedOf, IsKept}
 use Rattle.saved_run.specs.Saving.{IsSavedFor, Saves}
 use Rattle.saved_run.specs.Written.{IsWritten}
@@ -32,8 +30,8 @@ pub saved_for : {F : Type 0} (follows : F → Word → Type 0) (means : Runner �
     → IsSavedFor means text on.layout left bytes
 saved_for follows means on first origin is none session text None after bytes saved = tt
 saved_for follows means on first origin is none session text (Some items) after bytes saved =
-    saved_after follows means (first_origin on first) session text items bytes []
-    (subst (λ o. IsAfter follows o (lines items true) session) is after) none saved
+    saved_after follows means (first_origin on first) session text items bytes
+    (subst (λ o. IsAfter follows o (lines items true) session) is after) saved [] none
 
 module _ (means : Runner → Word → Type 0) (text : List ℕ) (layout : Layout) (old new : Outside)
   where
@@ -53,20 +51,3 @@ module _ (means : Runner → Word → Type 0) (text : List ℕ) (layout : Layout
     saves_all ends (Err (stop.Bad Form)) (Err flaw) kept written = absurd kept
     saves_all ends (Err (stop.Bad Unfit)) (Err flaw) kept written = absurd kept
     saves_all ends made result kept written = absurd written
-
-    -- a run that did not come to the end of its items saves nothing
-    pub saves_none : (Says : List Shown → List ℕ → Type 0) (taken taken' : Option (List ℕ))
-        (status : Status) → (status ≡ Done → ⊥) → (status ≡ SinkFault → ⊥)
-        → new.taken ≡ old.taken
-        → EndedBy Says status (record old { taken = taken }) (record new { taken = taken' })
-        → Saves means text layout (Ok status) old new
-    saves_none Says taken taken' Done other no_fault same ended = absurd (other refl)
-    saves_none Says taken taken' SinkFault other no_fault same ended = absurd (no_fault refl)
-    saves_none Says taken taken' ItemFault other no_fault same ended =
-        (ended.0, ended.1, ended.2, same)
-    saves_none Says taken taken' Memory other no_fault same ended = (ended.0, same)
-    saves_none Says taken taken' Limit other no_fault same ended =
-        (ended.0, ended.1, ended.2, ended.3, same)
-    saves_none Says taken taken' Usage other no_fault same ended = absurd ended
-    saves_none Says taken taken' QueryFault other no_fault same ended = absurd ended
-    saves_none Says taken taken' Refused other no_fault same ended = absurd ended

@@ -1,11 +1,11 @@
--- Runs that go on from a snapshot which stands after bytes, and snapshots that are saved after them.
+-- Runs that go on from a snapshot which stands after bytes, and snapshots saved after them.
 use Rattle.std.proofs.Common.{◌≡◌, ◌<◌, ◌≤◌, ◌||◌, ◌^◌, ℕ, Bool, true, false, List, [], ◌∷◌, ◌++◌}
 use Rattle.std.proofs.Common.{length, Some, refl, sym, ap, subst, ◌∙◌, arith}
 use Rattle.io_edge.specs.Lines.{lines}
 use Rattle.item_schema.specs.Layout.{Layout}
 use Rattle.query_model.specs.Monitors.{Monitor}
 use Rattle.rate_expr.specs.Words.{Word}
-use Rattle.runner_snapshot.specs.Bytes.{Snapshot, snapshot_bytes, snapshot_with}
+use Rattle.runner_snapshot.specs.Bytes.{Snapshot, snapshot_with}
 use Rattle.runner_snapshot.specs.Dumps.{Runner}
 use Rattle.runner_snapshot.proofs.ReadSnapshots.{one_spelling}
 use Rattle.stream_run.specs.Meanings.{IsMeaning, Meaning}
@@ -53,7 +53,7 @@ module _ (means : Runner → Word → Type 0) (monitor : Monitor) (snapshot : Sn
   carried first others answered bytes cut standing advanced =
       let layout = monitor.layout in
       let word = items_after layout false first in
-      let saved = advanced.saved word standing.stands in
+      let saved = advanced.saved.after word standing.stands in
       let begun : (snapshot.began || is_some_byte others) ≡ is_some_byte (first ++ others) =
       ap (λ (b : Bool). b || is_some_byte others) standing.began_is
       ∙ sym (some-append first others) in

@@ -1,12 +1,12 @@
 -- The items of bytes are a word of the stream.
 use Rattle.std.proofs.Common.{◌≡◌, ◌==◌, ℕ, Bool, true, false, cond, nat_lt, List, [], ◌∷◌, ◌++◌}
 use Rattle.std.proofs.Common.{◌-◌, zero, suc, length, take, Some, Result, Ok, Err, refl, ◌∙◌}
-use Rattle.std.specs.Io.BufRead.{ends_with_byte, strip_last}
-use Rattle.std.specs.List.{AllByRecursion, flat_map, list_all}
+use Rattle.std.specs.Io.BufRead.{ends_with_byte}
+use Rattle.std.specs.List.{AllByRecursion, flat_map}
 use Rattle.std.proofs.lemmas.Bool.{and_from, and_parts}
 use Rattle.std.proofs.lemmas.List.Folds.{list_all-append}
 use Rattle.io_edge.specs.Limits.{max_line}
-use Rattle.io_edge.specs.Lines.{Shown, text, long, ended_by_end, ended_by_lf, last_line, lines_from}
+use Rattle.io_edge.specs.Lines.{Shown, text, long, ended_by_end, ended_by_lf, lines_from}
 use Rattle.io_edge.specs.Lines.{lines}
 use Rattle.value_ops.specs.Texts.{IsText, are_bytes}
 use Rattle.value_ops.specs.declared.field.Field.{Field}
@@ -15,7 +15,7 @@ use Rattle.item_schema.specs.declared.column.Column.{Column}
 use Rattle.line_reader.proofs.Items.{item_is_of}
 use Rattle.line_reader.specs.Reading.{item_of}
 use Rattle.line_reader.specs.declared.stop.Skip.{Skip}
-use Rattle.rate_expr.specs.Words.{Word, IsWordOf}
+use Rattle.rate_expr.specs.Words.{IsWordOf}
 use Rattle.stream_run.specs.Output.{body_of, item_in, read_of}
 use Rattle.stream_run.specs.Resumed.{items_after}
 use Rattle.stream_run.proofs.LineItems.{word_joined}

@@ -18,18 +18,24 @@ use Rattle.stream_run.specs.Resumed.{is_some_byte, items_after}
 use Rattle.stream_run.specs.declared.status.Status.{Status}
 use Rattle.stream_run.specs.declared.status.Status.TheVariants.{Done, SinkFault, Memory}
 use Rattle.saved_run.specs.Resuming.{IsSaidFrom}
-use Rattle.saved_run.specs.Saving.{IsSavedAfter}
+use Rattle.saved_run.specs.Saving.{IsSavedAfter, IsSnapshotOf}
 use Rattle.saved_run.specs.Texts.{snapshot_text}
 
--- what all items gave: the answers to all lines; and of whichever word the dump stood for, the
--- bytes of a snapshot of the same text after this word and the items. In this snapshot a line has
--- come if one had come before or there are bytes.
+-- what bytes are to the items of a run that goes on from a snapshot: those of a snapshot of the same
+-- text, in which a line has come if one had come before or there are items; and if the dump stands
+-- for a word, of one after this word and the items
+pub record IsSavedFrom (means : Runner → Word → Type 0) (monitor : Monitor) (snapshot : Snapshot)
+    (items bytes : List ℕ) : Type 0 where
+  pub is_snapshot : IsSnapshotOf snapshot.text (snapshot.began || is_some_byte items) bytes
+  pub after : (word : Word) → means snapshot.dump word
+      → IsSavedAfter means snapshot.text (snapshot.began || is_some_byte items)
+      (word ++ items_after monitor.layout snapshot.began items) bytes
+
+-- what all items gave: the answers to all lines, and the bytes of the snapshot after them
 pub record IsAdvanced (means : Runner → Word → Type 0) (monitor : Monitor) (snapshot : Snapshot)
     (items answers bytes : List ℕ) : Type 0 where
   pub answered : IsSaidFrom means monitor snapshot (lines items true) answers
-  pub saved : (word : Word) → means snapshot.dump word
-      → IsSavedAfter means snapshot.text (snapshot.began || is_some_byte items)
-      (word ++ items_after monitor.layout snapshot.began items) bytes
+  pub saved : IsSavedFrom means monitor snapshot items bytes
 
 -- all items were read to their end, and this holds of what they gave, if their bytes are known
 abbrev pub TakesAll : (Runner → Word → Type 0) → Monitor → Snapshot → Outside → Outside

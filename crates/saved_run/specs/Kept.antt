@@ -6,13 +6,13 @@ use Rattle.runner_snapshot.specs.Stops.{max_snapshot}
 use Rattle.runner_snapshot.specs.declared.flaw.Flaw.TheVariants.{Long}
 use Rattle.runner_snapshot.specs.declared.flaw.SnapStop.{SnapStop}
 use Rattle.runner_snapshot.specs.declared.flaw.SnapStop.TheVariants.{Bad, Memory}
-use Rattle.saved_run.specs.Saving.{IsSavedAfter}
+use Rattle.saved_run.specs.Saving.{IsSavedAfter, IsSnapshotOf}
 
--- whichever word is followed, these are the bytes of a snapshot after it
-abbrev pub AreSavedOf : (Runner → Word → Type 0) → (Word → Type 0) → List ℕ → Bool → List ℕ
-    → Type 0
-AreSavedOf means follows text began bytes =
-    (word : Word) → follows word → IsSavedAfter means text began word bytes
+-- these are the bytes of a snapshot, and whichever word is followed, of one after it
+pub record AreSavedOf (means : Runner → Word → Type 0) (follows : Word → Type 0) (text : List ℕ)
+    (began : Bool) (bytes : List ℕ) : Type 0 where
+  pub is_snapshot : IsSnapshotOf text began bytes
+  pub after : (word : Word) → follows word → IsSavedAfter means text began word bytes
 
 -- there are such bytes, and not too many, or too many, which is told; or memory ran out
 abbrev pub IsKept : (List ℕ → Type 0) → Result (List ℕ) SnapStop → Type 0

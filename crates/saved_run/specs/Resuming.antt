@@ -1,5 +1,5 @@
 -- Statement. What a run did that goes on from a snapshot.
-use Rattle.std.specs.Prelude.{◌≡◌, ℕ, Bool, List, Result, Ok, Err}
+use Rattle.std.specs.Prelude.{◌≡◌, ℕ, List, Result, Ok, Err}
 use Rattle.io_edge.specs.Lines.{Shown}
 use Rattle.query_model.specs.Monitors.{Monitor}
 use Rattle.rate_expr.specs.Words.{Word, IsWordOf}

@@ -16,12 +16,16 @@ use Rattle.runner_snapshot.specs.declared.flaw.Flaw.TheVariants.{Long}
 use Rattle.stream_run.specs.Outside.{MeetsOneAtMost, Outside}
 use Rattle.stream_run.specs.Resumed.{is_some_byte, items_after}
 use Rattle.stream_run.specs.declared.status.Status.{Status}
-use Rattle.stream_run.specs.declared.status.Status.TheVariants.{Done, Refused, Usage, QueryFault}
+use Rattle.stream_run.specs.declared.status.Status.TheVariants.{Done}
 use Rattle.stream_run.specs.declared.status.Status.TheVariants.{ItemFault, SinkFault, Memory, Limit}
 
--- these are the bytes of a snapshot of a query text, of whether lines have come, and of a dump that
--- stands for this word; if they are not too many, and the word is at most 2^62 long, they can be
--- read again
+-- these are the bytes of a snapshot of a query text, and of whether lines have come
+abbrev pub IsSnapshotOf : List ℕ → Bool → List ℕ → Type 0
+IsSnapshotOf text began bytes =
+    (dump : Runner) × (bytes ≡ snapshot_bytes (snapshot_with text began dump))
+
+-- these are such bytes, and the dump of their snapshot stands for this word; if they are not too
+-- many, and the word is at most 2^62 long, they can be read again
 pub record IsSavedAfter (means : Runner → Word → Type 0) (text : List ℕ) (began : Bool)
     (word : Word) (bytes : List ℕ) : Type 0 where
   pub dump : Runner

@@ -10,14 +10,11 @@ ghost use Rattle.saved_run.specs.Opened.{IsBadFor, IsOpened, IsSpelled, ReadsFor
 ghost use Rattle.saved_run.specs.Stopped.{IsUncompiled, IsUnopened};
 ghost use Rattle.type_checker.specs.Judged.{accepted};
 
-use io_edge::{Source, SteadySource, TakeStop, read_to_limit};
-use query_compiler::{QueryStop, compile};
+use io_edge::{Source, TakeStop, read_to_limit};
+use query_compiler::{QueryStop, compile_text};
 use query_model::Checked;
-use runner_snapshot::{Flaw, Saved, SnapStop, read_saved};
+use runner_snapshot::{Flaw, MAX_SNAPSHOT, Saved, SnapStop, read_saved};
 use std::alloc::Global;
-
-/// The bytes of a snapshot, at the most.
-const MAX_SNAPSHOT: usize = 67_108_864;
 
 /// A snapshot, and the query of its text.
 #[derive(Drop)]
@@ -87,13 +84,12 @@ fn compiled(alloc: Global, text: &[u8]) -> Result<Box<Checked>, SnapStop>
     ensures kept { IfOk result (λ checked. KeepsRules (monitor_of checked.value)) }
     ensures refused { IfErr result (IsUncompiled text.now) }
 {
-    let mut source = SteadySource::new(alloc, text)?;
-    match compile(alloc, &mut source) {
+    match compile_text(alloc, text) {
         Ok(checked) => Ok(checked),
         Err(QueryStop::Refused(_)) => Err(SnapStop::Bad(Flaw::Query)),
         Err(QueryStop::Ambiguous(_)) => Err(SnapStop::Bad(Flaw::Query)),
         Err(QueryStop::Memory) => Err(SnapStop::Memory),
-        // Bytes in memory do not fail.
+        // No source is read.
         Err(QueryStop::Failed) => unreachable!(),
     }
 }

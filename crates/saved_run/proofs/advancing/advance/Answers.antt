@@ -1,4 +1,4 @@
-use Rattle.std.proofs.Common.{List, inl, refl, rules}
+use Rattle.std.proofs.Common.{inl, refl, rules}
 use Rattle.rate_expr.specs.Words.{Word}
 use Rattle.query_model.specs.Monitors.{monitor_of}
 use Rattle.query_model.specs.Queries.{plain_of}

@@ -2,7 +2,7 @@ use Rattle.std.proofs.Common.{ℕ, List, ap, inl, rules, subst}
 use Rattle.query_model.specs.Monitors.{monitor_of}
 use Rattle.runner_snapshot.specs.Saved.{snapshot_of}
 use Rattle.saved_run.specs.Opened.{IsEarlyFlaw, IsOpened}
-use Rattle.saved_run.proofs.Compiling.{flaw_of_all, of_all}
+use Rattle.saved_run.proofs.WholeBytes.{flaw_of_all, of_all}
 use Rattle.saved_run.proofs.opening.open_snapshot.Goals as goal
 
 pub returns-in-Err-Memory-clause-read : goal.returns-in-Err-Memory-clause-read
