@@ -1,7 +1,6 @@
 -- The line with which a call ends, and how the call ends by it.
-use Rattle.std.proofs.Common.{◌≡◌, ◌⊎◌, inl, inr, ℕ, List, Option, refl, sym, subst, arith}
-use Rattle.io_edge.specs.Faults.{ReportsFault}
-use Rattle.stream_run.specs.declared.status.Status.TheVariants.{SinkFault, Memory, ItemFault}
+use Rattle.std.proofs.Common.{◌≡◌, ◌⊎◌, inl, inr, ℕ, List, Option, sym, subst}
+use Rattle.stream_run.specs.declared.status.Status.TheVariants.{SinkFault, Memory}
 use Rattle.snapshot_run.specs.LastLines.{EndsWith, whole, part, nothing}
 use Rattle.snapshot_run.specs.Past.{IsPastReading}
 use Rattle.snapshot_run.specs.declared.exit.Exit.{Exit}
@@ -24,22 +23,3 @@ module _ {text : List ℕ} {wanted exit : Exit} {old new : Option (List ℕ)} wh
       at (inl is) = subst IsPastReading (sym is) past
       at (inr (inl is)) = subst IsPastReading (sym is) tt
       at (inr (inr is)) = subst IsPastReading (sym is) tt
-
-  -- no fault of the items is reported
-  no_item_fault : EndsWith text wanted exit old new → (wanted ≡ Plain ItemFault → ⊥)
-      → exit ≡ Plain ItemFault → ⊥
-  no_item_fault ends other is = at (ends_by ends)
-    where
-      at : (exit ≡ wanted) ⊎ ((exit ≡ Plain SinkFault) ⊎ (exit ≡ Plain Memory)) → ⊥
-      at (inl same) = other (cc)
-      at (inr (inl same)) = absurd (cc)
-      at (inr (inr same)) = absurd (cc)
-
-  -- where the items met none
-  pub calm_by_line : {S : Type 0} (faults : S → ℕ) (items : S) → EndsWith text wanted exit old new
-      → (wanted ≡ Plain ItemFault → ⊥) → ReportsFault exit (Plain ItemFault) faults items items
-  calm_by_line faults items ends other = record {
-    later = omega arith;
-    by_one = λ is. absurd (no_item_fault ends other is);
-    else_same = λ none. refl;
-  }

@@ -1,4 +1,3 @@
 pub mod GoingOn
-pub mod Judging
 pub mod LastLines
 pub mod Reading

@@ -1,17 +1,15 @@
 -- What was read of a source, and what came of its bytes.
-use Rattle.std.proofs.Common.{◌≡◌, ◌≤◌, ℕ, List, length, Option, Some, None, IfSome, refl, arith}
+use Rattle.std.proofs.Common.{◌≤◌, ℕ, List, length, Option, Some, None, IfSome, refl, arith}
 use Rattle.std.proofs.KnownBytes.{Consumes-whole}
 use Rattle.std.specs.Io.KnownBytes.{IsAtEnd}
 use Rattle.io_edge.specs.Taken.{TakesFirst}
 use Rattle.language_base.specs.Limits.{max_text}
-use Rattle.query_compiler.proofs.Compilations.{reported_query}
-use Rattle.query_compiler.specs.Compiled.{Compiles, judged, unread}
+use Rattle.query_compiler.proofs.Compilations.{compiled_short, reported_query}
 use Rattle.query_compiler.specs.QueryRead.{max_read}
-use Rattle.query_model.specs.Monitors.{Monitor}
 use Rattle.stream_run.specs.Outside.{Outside}
 use Rattle.stream_run.specs.declared.status.Status.TheVariants.{Done, Refused, Usage, QueryFault}
 use Rattle.stream_run.specs.declared.status.Status.TheVariants.{ItemFault, SinkFault, Memory, Limit}
-use Rattle.type_checker.specs.Judged.{Verdict, accepted, refused}
+use Rattle.type_checker.specs.Judged.{accepted, refused}
 use Rattle.snapshot_run.specs.Call.{OutcomeOf}
 use Rattle.snapshot_run.specs.GoingOn.{GoesOn}
 use Rattle.snapshot_run.specs.Past.{IsPastReading}
@@ -20,12 +18,6 @@ use Rattle.snapshot_run.specs.declared.command.Command.TheVariants.{Save, GoOn}
 use Rattle.snapshot_run.specs.declared.command.Onward.{Onward}
 use Rattle.snapshot_run.specs.declared.exit.Exit.{Exit}
 use Rattle.snapshot_run.specs.declared.exit.Exit.TheVariants.{Plain, BadSnapshot}
-
--- a text that is compiled to a query is not too long
-compiled_short : (text : List ℕ) (verdict : Verdict) (monitor : Monitor)
-    → verdict ≡ accepted monitor → Compiles text verdict → length text ≤ max_text
-compiled_short text _ monitor is (judged program verdict file was) = file.has.has.has.has.short
-compiled_short text _ monitor is (unread why broken) = absurd (cc)
 
 -- what holds of all bytes, holds of those that are left
 all_left : (left : Option (List ℕ)) (Q : List ℕ → Type 0) → ((bytes : List ℕ) → Q bytes)

@@ -7,4 +7,3 @@ pub mod LastLines
 pub mod Past
 pub mod Saving
 pub mod SourceRead
-pub mod Verdicts

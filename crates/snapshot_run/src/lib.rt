@@ -5,7 +5,6 @@ mod call;
 mod command;
 mod exit;
 mod going_on;
-mod judged;
 mod last_line;
 mod saving;
 

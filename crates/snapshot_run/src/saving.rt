@@ -13,18 +13,14 @@ ghost use Rattle.snapshot_run.specs.SourceRead.{ReadsSource};
 
 use crate::Exit;
 use crate::command::Command;
-use crate::judged::{Judged, judge_text};
-use crate::last_line::{write_flaw, write_line};
+use crate::last_line::{write_flaw, write_refusal};
 use io_edge::{Sink, Source, TakeStop, read_to_limit};
 use kept_runner::KeptRunner;
+use query_compiler::{MAX_READ, QueryStop, compile_text};
 use query_model::Checked;
-use report_writer::refusal_text;
 use saved_run::save;
-use std::alloc::{AllocError, Global};
+use std::alloc::Global;
 use stream_run::Status;
-
-/// The most bytes that are read of a query, as a run of it reads them.
-const MAX_READ: usize = 65_537;
 
 /// Reads the query, takes the items, and writes the snapshot after them.
 pub fn save_query<Q: Source, S: Source, W: Sink>(
@@ -64,12 +60,13 @@ fn save_text<S: Source, W: Sink>(alloc: Global, text: &[u8], items: &mut S, out:
     ensures sink_faults { ReportsFault result (Exit.Plain Status.SinkFault)
         W.faults out.old out.new }
 {
-    match judge_text(alloc, text) {
-        Ok(Judged::Accepted(checked)) => save_run(alloc, text, &checked, items, out),
-        Ok(Judged::Refused(why)) => {
-            write_line(refusal_text(alloc, why), Exit::Plain(Status::Refused), out)
-        }
-        Err(AllocError) => Exit::Plain(Status::Memory),
+    match compile_text(alloc, text) {
+        Ok(checked) => save_run(alloc, text, &checked, items, out),
+        Err(QueryStop::Refused(why)) => write_refusal(alloc, why, out),
+        Err(QueryStop::Ambiguous(blame)) => write_refusal(alloc, blame.refusal(), out),
+        Err(QueryStop::Memory) => Exit::Plain(Status::Memory),
+        // No source is read.
+        Err(QueryStop::Failed) => unreachable!(),
     }
 }
 
