@@ -1,12 +1,8 @@
-//! What comes of a snapshot from which a run is to go on. It is opened here and not by the top call,
-//! which makes room for the longest snapshot each time.
+//! What comes of a snapshot from which a run is to go on.
 
 use io_edge::{MemorySink, SteadySource};
-use kept_runner::KeptRunner;
-use query_compiler::{QueryStop, compile};
-use query_model::Checked;
-use runner_snapshot::{Flaw, Saved, SnapStop, read_saved};
-use saved_run::resume;
+use runner_snapshot::Flaw;
+use snapshot_run::{Exit, snapshot};
 use std::alloc::{AllocError, Global};
 use stream_run::Status;
 
@@ -23,38 +19,52 @@ pub(crate) enum Outcome {
 }
 
 pub(crate) fn resumed(alloc: Global, bytes: &[u8], items: &[u8]) -> Result<Outcome, AllocError> {
-    match read_saved(alloc, bytes) {
-        Ok(saved) => resumed_from(alloc, &saved, items),
-        Err(SnapStop::Bad(flaw)) => Ok(Outcome::Bad(flaw)),
-        Err(SnapStop::Memory) => Err(AllocError),
-    }
-}
-
-fn resumed_from(alloc: Global, saved: &Saved, items: &[u8]) -> Result<Outcome, AllocError> {
-    let mut text = SteadySource::new(alloc, saved.text())?;
-    match compile(alloc, &mut text) {
-        Ok(checked) => resumed_by(alloc, &checked, saved, items),
-        Err(QueryStop::Refused(_)) => Ok(Outcome::Bad(Flaw::Query)),
-        Err(QueryStop::Ambiguous(_)) => Ok(Outcome::Bad(Flaw::Query)),
-        Err(QueryStop::Memory) => Err(AllocError),
-        Err(QueryStop::Failed) => Ok(Outcome::Other),
-    }
-}
-
-fn resumed_by(
-    alloc: Global,
-    checked: &Checked,
-    saved: &Saved,
-    items: &[u8],
-) -> Result<Outcome, AllocError> {
-    let mut items = SteadySource::new(alloc, items)?;
     let mut out = MemorySink::new(alloc, ROOM, &[])?;
-    let ended = resume::<KeptRunner, SteadySource, MemorySink>(
-        alloc, checked, saved, &mut items, &mut out,
-    );
-    Ok(match ended {
-        Ok(Status::Done) => Outcome::Ran,
-        Ok(_) => Outcome::Other,
-        Err(flaw) => Outcome::Bad(flaw),
-    })
+    match resume_over(alloc, bytes, items, &mut out)? {
+        Exit::BadSnapshot => Ok(bad(out.bytes())),
+        Exit::Plain(Status::Done) => Ok(Outcome::Ran),
+        Exit::Plain(Status::Memory) => Err(AllocError),
+        Exit::Plain(_) => Ok(Outcome::Other),
+    }
+}
+
+fn bad(line: &[u8]) -> Outcome {
+    match line {
+        b"bad snapshot long\n" => Outcome::Bad(Flaw::Long),
+        b"bad snapshot head\n" => Outcome::Bad(Flaw::Head),
+        b"bad snapshot query\n" => Outcome::Bad(Flaw::Query),
+        b"bad snapshot form\n" => Outcome::Bad(Flaw::Form),
+        b"bad snapshot unfit\n" => Outcome::Bad(Flaw::Unfit),
+        _ => Outcome::Other,
+    }
+}
+
+// Each value is made in a function of its own, since it is dropped at each later step that fails.
+fn resume_over(
+    alloc: Global,
+    bytes: &[u8],
+    items: &[u8],
+    out: &mut MemorySink,
+) -> Result<Exit, AllocError> {
+    let mut saved = SteadySource::new(alloc, bytes)?;
+    resume_from(alloc, &mut saved, items, out)
+}
+
+fn resume_from(
+    alloc: Global,
+    saved: &mut SteadySource,
+    items: &[u8],
+    out: &mut MemorySink,
+) -> Result<Exit, AllocError> {
+    let mut items = SteadySource::new(alloc, items)?;
+    let words = words(alloc)?;
+    Ok(snapshot(alloc, &words, saved, &mut items, out))
+}
+
+fn words(alloc: Global) -> Result<Vec<String>, AllocError> {
+    let mut words = Vec::new(alloc);
+    for word in ["resume", "snapshot", "items.csv"] {
+        words.push(String::from_str(alloc, word)?)?;
+    }
+    Ok(words)
 }
