@@ -1,5 +1,6 @@
-//! Calls of `place_in_text`, `io_edge`, `item_drill` and `report_writer` with ample memory, and
-//! what they give at their edges. They stand here because a crate with tests is proved twice.
+//! Calls of `place_in_text`, `io_edge` and `item_drill` with ample memory, and what they give at
+//! their edges, where a run of a program shows less. They stand here because a crate with tests is
+//! proved twice.
 #![tactic(auto)]
 
 #[cfg(test)]
@@ -16,8 +17,6 @@ mod lines;
 mod places;
 #[cfg(test)]
 mod prefixes;
-#[cfg(test)]
-mod reports;
 #[cfg(test)]
 mod resumed_source;
 #[cfg(test)]

@@ -52,30 +52,6 @@ fn answers_of(
     answers(alloc, &mut Lines::new(alloc)?, &mut source)
 }
 
-// Bytes, and their lines.
-const LINES: &[(&[u8], &[u8])] = &[
-    (b"5\n7\n-2\n", b"5|7|-2|"),
-    (b"", b""),
-    (b"\n\na", b"||a|"),
-    (b"a\r\nb\r", b"a|b\r|"),
-    (b"\r\n\r", b"|\r|"),
-    (b"\r\r\r", b"\r\r\r|"),
-    (b"\r\r\n", b"\r|"),
-    (b"a\rb\n", b"a\rb|"),
-    (b"1\n2", b"1|2|"),
-];
-
-#[test]
-fn lines_are_the_same_in_every_cut(rt: HostRuntime) -> Result<(), Fail> {
-    for &(bytes, want) in LINES {
-        for cut in 1..9 {
-            let got = answers_of(rt.alloc(), bytes, &[cut; 9], &[])?;
-            same_at(&rt, cut, got.as_slice(), want);
-        }
-    }
-    Ok(())
-}
-
 // A read that fails shows when it came. No clause says that a call reads no more than it needs.
 #[test]
 fn a_read_comes_only_for_a_line_and_a_failed_one_loses_no_byte(

@@ -5,18 +5,6 @@ use std::io;
 use std::test::Fail;
 
 #[test]
-fn memory_takes_what_fits_and_fails_by_number(rt: HostRuntime) -> Result<(), Fail> {
-    let mut sink = MemorySink::new(rt.alloc(), 5, &[2])?;
-    for want in [Ok(3), Err(Failed), Ok(2), Err(Failed)] {
-        same(&rt, sink.write(b""), Ok(0));
-        same(&rt, sink.write(b"abc"), want);
-        same(&rt, sink.flush(), Ok(()));
-    }
-    same(&rt, sink.bytes(), b"abcab".as_slice());
-    Ok(())
-}
-
-#[test]
 fn writes_are_cut_by_their_numbers(rt: HostRuntime) -> Result<(), Fail> {
     let mut sink = MemorySink::with_cuts(rt.alloc(), 7, &[2, 0, 1, 9], &[3])?;
     for want in [Ok(2), Ok(1), Err(Failed), Ok(3), Ok(1)] {

@@ -30,22 +30,6 @@ fn reads_are_cut_and_fail_by_their_numbers(rt: HostRuntime) -> Result<(), Fail> 
 }
 
 #[test]
-fn the_bytes_come_in_order_and_then_the_end(rt: HostRuntime) -> Result<(), Fail> {
-    let mut source = MemorySource::new(rt.alloc(), b"abcde", &[3], &[2])?;
-    let mut buf = [0; 4];
-    for (want, filled) in [
-        (Ok(3), b"abc\0"),
-        (Err(Failed), b"abc\0"),
-        (Ok(2), b"dec\0"),
-        (Ok(0), b"dec\0"),
-    ] {
-        same(&rt, source.read(&mut buf), want);
-        same(&rt, buf.as_slice(), filled.as_slice());
-    }
-    Ok(())
-}
-
-#[test]
 fn steady_reads_fill_their_room_until_the_end(rt: HostRuntime) -> Result<(), Fail> {
     let mut source = SteadySource::new(rt.alloc(), b"12345")?;
     let mut buf = [0; 3];

@@ -1,4 +1,1 @@
-pub mod Tested
-pub mod TestedCollects
-pub mod TestedComposes
 pub mod TestedFolds

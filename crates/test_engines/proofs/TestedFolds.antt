@@ -1,10 +1,12 @@
 -- The query of the test on two iterations keeps the rules.
-use Rattle.std.proofs.Common.{◌≡◌, ◌∙◌, List, [], ◌∷◌, ◌++◌, ap, arith, refl, rules, sym}
-use Rattle.std.specs.Prelude.{pos, FitsSigned}
+use Rattle.std.proofs.Common.{◌≡◌, ◌∙◌, List, [], ◌∷◌, ◌++◌, ap, arith, refl, rules, sym, subst}
+use Rattle.std.specs.Prelude.{IsTrue, pos, FitsSigned}
 use Rattle.std.specs.Int.{w64}
-use Rattle.std.specs.List.{AllByRecursion}
+use Rattle.std.specs.List.{AllByRecursion, list_all}
 use Rattle.value_ops.specs.declared.field.Field.{Field}
+use Rattle.value_ops.specs.declared.field.Field.TheVariants as field
 use Rattle.item_schema.specs.declared.column.Column.{Column}
+use Rattle.item_schema.specs.Layout.{is_read}
 use Rattle.predicates.specs.Predicates.{any}
 use Rattle.rate_expr.specs.Language.{In}
 use Rattle.rate_expr.specs.Rates.{one}
@@ -12,12 +14,17 @@ use Rattle.rate_expr.specs.Readings.{HasOneFactoring}
 use Rattle.rate_expr.specs.Words.{Word, join}
 use Rattle.query_model.specs.Checked.{IsChecked, CheckedQuery}
 use Rattle.query_model.specs.Queries.{plain_of}
-use Rattle.query_model.specs.Rules.{IsClear, Standing, free}
+use Rattle.query_model.specs.Rules.{CanBeMet, IsClear, free}
 use Rattle.query_model.specs.Sizes.{IsSmall}
 use Rattle.test_engines.specs.TestedQueries.{excess, numbers}
-use Rattle.test_engines.proofs.Tested.{checked_as, met}
 
-pub zero_fits : FitsSigned w64 (pos 0)
+five : FitsSigned w64 (pos 5)
+five = search rules
+
+met : CanBeMet numbers any
+met = record { fit = refl; item = field.Int (pos 5) ∷ []; is_item = (five, tt); meets = refl }
+
+zero_fits : FitsSigned w64 (pos 0)
 zero_fits = search rules
 
 one_fits : FitsSigned w64 (pos 1)
@@ -41,11 +48,11 @@ same_pieces (u ∷ us) (v ∷ vs) ((x, is, meets), all) ((y, is', meets'), other
     ap (λ (w : Word). w ∷ us) firsts
     ∙ ap (λ (ws : List Word). v ∷ ws) (same_pieces us vs all others tails)
 
-pub one_factoring : (columns : List Column) → HasOneFactoring columns (one any)
+one_factoring : (columns : List Column) → HasOneFactoring columns (one any)
 one_factoring columns us vs is all others same = same_pieces us vs all others same
 
-clear : (standing : Standing) → IsClear standing numbers excess
-clear standing = (
+clear : IsClear free numbers excess
+clear = (
   ((met, refl), zero_fits, (refl, refl), one_factoring numbers),
   ((met, one_fits), zero_fits, (refl, refl), one_factoring numbers),
   (refl, refl),
@@ -63,4 +70,11 @@ small = record {
 
 pub excess_checked : (on : CheckedQuery) → on.layout.columns ≡ numbers
     → plain_of on.main.shape ≡ excess → IsChecked on
-excess_checked on columns query = checked_as excess (clear free) small on columns query
+excess_checked on columns query = record {
+  read = subst (λ (cs : List Column). IsTrue (list_all (λ (c : Column). is_read c.kind) cs))
+      (sym columns) (search rules);
+  clear = subst (λ (cs : List Column). IsClear free cs (plain_of on.main.shape)) (sym columns)
+      (subst (IsClear free numbers) (sym query) clear);
+  small = subst (λ (cs : List Column). IsSmall cs (plain_of on.main.shape)) (sym columns)
+      (subst (IsSmall numbers) (sym query) small);
+}

@@ -9,28 +9,19 @@ ghost use Rattle.test_engines.specs.TestedQueries as tested;
 use expressions::{Expr, Var};
 use item_schema::{Column, Item, Kind, Schema};
 use predicates::Pred;
-use query_model::{KeyColumns, Query, Shape, Span};
+use query_model::{Query, Shape, Span};
 use std::alloc::{AllocError, Global};
 use value_ops::{BinaryOp, Bytes, Field};
 
-pub fn query(alloc: Global, shape: Shape) -> Result<Box<Query>, AllocError>
+fn query(alloc: Global, shape: Shape) -> Result<Box<Query>, AllocError>
     ensures { IfOk result (λ query. query.value.shape ≡ shape) }
 {
     let span = Span { from: 0, to: 1 };
     Ok(Box::new(alloc, Query { shape, span })?)
 }
 
-// The first column as a key.
-pub fn key_column(alloc: Global) -> Result<KeyColumns, AllocError>
-    ensures { IfOk result (λ columns. columns ≡ 0 ∷ []) }
-{
-    let mut at = Vec::new(alloc);
-    at.push(0)?;
-    Ok(KeyColumns::of(at))
-}
-
 // atom(any, EXPRESSION)
-pub fn each(alloc: Global, expression: Expr) -> Result<Box<Query>, AllocError>
+fn each(alloc: Global, expression: Expr) -> Result<Box<Query>, AllocError>
     ensures { IfOk result (λ query. plain_of query.value.shape
         ≡ atom any (values.plain_of expression)) }
 {
@@ -38,7 +29,7 @@ pub fn each(alloc: Global, expression: Expr) -> Result<Box<Query>, AllocError>
 }
 
 // The values of both operands.
-pub fn both(alloc: Global, operator: BinaryOp) -> Result<Expr, AllocError>
+fn both(alloc: Global, operator: BinaryOp) -> Result<Expr, AllocError>
     ensures { IfOk result (λ both. values.plain_of both
         ≡ binary operator (read Var.Left) (read Var.Right)) }
 {
@@ -47,18 +38,8 @@ pub fn both(alloc: Global, operator: BinaryOp) -> Result<Expr, AllocError>
     Ok(Expr::Binary(operator, left, right))
 }
 
-// split(atom(any, a), atom(any, a), sub(x, y))
-pub fn difference(alloc: Global) -> Result<Box<Query>, AllocError>
-    ensures { IfOk result (λ query. plain_of query.value.shape ≡ tested.difference) }
-{
-    let left = each(alloc, Expr::Read(Var::Field(0)))?;
-    let right = each(alloc, Expr::Read(Var::Field(0)))?;
-    let value = both(alloc, BinaryOp::Sub)?;
-    query(alloc, Shape::Split(left, right, value))
-}
-
 // iter(atom(any, EXPRESSION), 0, add(x, y))
-pub fn total(alloc: Global, expression: Expr) -> Result<Box<Query>, AllocError>
+fn total(alloc: Global, expression: Expr) -> Result<Box<Query>, AllocError>
     ensures { IfOk result (λ query. plain_of query.value.shape
         ≡ tested.total (values.plain_of expression)) }
 {
@@ -77,15 +58,6 @@ pub fn excess(alloc: Global) -> Result<Box<Query>, AllocError>
     query(alloc, Shape::Combine(left, right, value))
 }
 
-// compose(iter(atom(any, a), 0, add(x, y)), iter(atom(any, value), 0, add(x, y)))
-pub fn total_of_totals(alloc: Global) -> Result<Box<Query>, AllocError>
-    ensures { IfOk result (λ query. plain_of query.value.shape ≡ tested.total_of_totals) }
-{
-    let left = total(alloc, Expr::Read(Var::Field(0)))?;
-    let right = total(alloc, Expr::Read(Var::Field(0)))?;
-    query(alloc, Shape::Compose(left, right))
-}
-
 // The column of a number.
 pub fn numbers(alloc: Global) -> Result<Schema, AllocError>
     ensures { IfOk result (λ schema. schema.columns ≡ tested.numbers) }
@@ -99,10 +71,8 @@ pub fn numbers(alloc: Global) -> Result<Schema, AllocError>
     Ok(Schema::new(false, columns))
 }
 
-pub fn item(alloc: Global, number: i64) -> Result<Item<'static>, AllocError>
-    ensures { IfOk result (λ item. item ≡ Field.Int number ∷ []) }
+pub fn item(alloc: Global, number: i64) -> Result<Box<Item<'static>>, AllocError>
+    ensures { IfOk result (λ item. item.value ≡ Field.Int number ∷ []) }
 {
-    let mut fields = Vec::new(alloc);
-    fields.push(Field::Int(number))?;
-    Ok(Item::from_fields(fields))
+    Ok(Box::new(alloc, Item::from_field(Field::Int(number)))?)
 }

@@ -1,4 +1,5 @@
-// What the runner answers item by item, with ample memory.
+// What the runner, its copy and a runner that is reset answer and keep, with ample memory. The
+// program `cases_queries` compares the answers to many words with those of the search.
 ghost use Rattle.std.specs.Prelude.{◌≡◌, ◌+◌, ◌<◌, ◌≤◌, IfOk, OnOk};
 ghost use Rattle.query_model.specs.Following.{composes_of};
 ghost use Rattle.query_model.specs.Queries.{plain_of};
@@ -7,23 +8,15 @@ ghost use Rattle.test_engines.specs.Feeding.{TakesItems};
 ghost use Rattle.test_engines.specs.TestedQueries as tested;
 
 use crate::assertions::same;
-use crate::fixtures::{difference, excess, item, numbers, total_of_totals};
+use crate::fixtures::{excess, item, numbers};
 use eval_runner::Runner;
 use query_model::{Checked, Follower};
 use std::alloc::{AllocError, Global};
+use std::process::Abort;
 use std::test::Fail;
 use value_ops::{Scalar, Value};
 
-pub fn checked_difference(alloc: Global) -> Result<Box<Checked>, AllocError>
-    ensures stream { IfOk result (λ checked. checked.value.layout.columns ≡ tested.numbers) }
-    ensures query { IfOk result (λ checked. plain_of checked.value.main.shape ≡ tested.difference) }
-{
-    let columns = numbers(alloc)?;
-    let main = difference(alloc)?;
-    Ok(Box::new(alloc, Checked::new(columns, main))?)
-}
-
-pub fn checked_excess(alloc: Global) -> Result<Box<Checked>, AllocError>
+fn checked_excess(alloc: Global) -> Result<Box<Checked>, AllocError>
     ensures stream { IfOk result (λ checked. checked.value.layout.columns ≡ tested.numbers) }
     ensures query { IfOk result (λ checked. plain_of checked.value.main.shape ≡ tested.excess) }
 {
@@ -32,18 +25,8 @@ pub fn checked_excess(alloc: Global) -> Result<Box<Checked>, AllocError>
     Ok(Box::new(alloc, Checked::new(columns, main))?)
 }
 
-pub fn checked_total(alloc: Global) -> Result<Box<Checked>, AllocError>
-    ensures stream { IfOk result (λ checked. checked.value.layout.columns ≡ tested.numbers) }
-    ensures query { IfOk result (λ checked.
-        plain_of checked.value.main.shape ≡ tested.total_of_totals) }
-{
-    let columns = numbers(alloc)?;
-    let main = total_of_totals(alloc)?;
-    Ok(Box::new(alloc, Checked::new(columns, main))?)
-}
-
 // The runner before the first number.
-pub fn begun(alloc: Global, checked: &Checked) -> Result<Box<Runner<'_>>, AllocError>
+fn begun(alloc: Global, checked: &Checked) -> Result<Box<Runner<'_>>, AllocError>
     requires stream { checked.now.layout.columns ≡ tested.numbers }
     requires composes { composes_of (plain_of checked.now.main.shape) ≤ 1 }
     ensures fed { IfOk result (λ runner. TakesItems tested.numbers runner.value) }
@@ -53,7 +36,7 @@ pub fn begun(alloc: Global, checked: &Checked) -> Result<Box<Runner<'_>>, AllocE
     Ok(Box::new(alloc, runner)?)
 }
 
-pub fn value(runner: &Runner<'_>) -> Option<i64> {
+fn value(runner: &Runner<'_>) -> Option<i64> {
     match runner.answer() {
         Some(Value::Scalar(Scalar::Number(number))) => Some(*number),
         _ => None,
@@ -61,7 +44,7 @@ pub fn value(runner: &Runner<'_>) -> Option<i64> {
 }
 
 // The value after one more number.
-pub fn value_after(
+fn value_after(
     alloc: Global,
     runner: &mut Runner<'_>,
     number: i64,
@@ -76,63 +59,68 @@ pub fn value_after(
     Ok(value(runner))
 }
 
-// Before the first number, after a 9, and after a 9 and a 4.
-fn values(
+fn copy_of<'q>(alloc: Global, runner: &Runner<'q>) -> Result<Box<Runner<'q>>, AllocError>
+    requires { TakesItems tested.numbers runner.now }
+    ensures fed { IfOk result (λ copy. TakesItems tested.numbers copy.value) }
+    ensures position { IfOk result (λ copy. position_of copy.value ≡ position_of runner.now) }
+{
+    let copy = runner.try_copy(alloc)?;
+    Ok(Box::new(alloc, copy)?)
+}
+
+// The copy takes a 9, and then the runner a 4.
+fn go_apart(
+    rt: &impl Abort,
     alloc: Global,
     runner: &mut Runner<'_>,
-) -> Result<(Option<i64>, Option<i64>, Option<i64>), AllocError>
+    copy: &mut Runner<'_>,
+) -> Result<(), Fail>
+    requires fed { TakesItems tested.numbers runner.old }
+    requires few { position_of runner.old < 90 }
+    requires copy_fed { TakesItems tested.numbers copy.old }
+    requires copy_few { position_of copy.old < 90 }
+    ensures { OnOk result (TakesItems tested.numbers runner.new) }
+{
+    same(rt, value_after(alloc, copy, 9)?, Some(16));
+    same(rt, (copy.stored(), copy.failed()), (10, false));
+    same(rt, value(runner), Some(8));
+    same(rt, value_after(alloc, runner, 4)?, Some(11));
+    Ok(())
+}
+
+// Its values are 0 before the first number, 8 after a 9, and 11 after a 9 and a 4.
+fn folds(rt: &impl Abort, alloc: Global, runner: &mut Runner<'_>) -> Result<(), Fail>
     requires fed { TakesItems tested.numbers runner.old }
     requires first { position_of runner.old ≡ 0 }
+    ensures { OnOk result (TakesItems tested.numbers runner.new) }
 {
-    let first = value(runner);
-    let second = value_after(alloc, runner, 9)?;
-    Ok((first, second, value_after(alloc, runner, 4)?))
+    same(rt, (value(runner), runner.stored()), (Some(0), 10));
+    same(rt, value_after(alloc, runner, 9)?, Some(8));
+    let mut copy = copy_of(alloc, runner)?;
+    go_apart(rt, alloc, runner, &mut copy)
 }
 
-fn values_of(
-    alloc: Global,
-    checked: &Checked,
-) -> Result<(Option<i64>, Option<i64>, Option<i64>), AllocError>
-    requires stream { checked.now.layout.columns ≡ tested.numbers }
-    requires composes { composes_of (plain_of checked.now.main.shape) ≤ 1 }
+fn begin_anew(alloc: Global, runner: &mut Runner<'_>) -> Result<(), AllocError>
+    requires { TakesItems tested.numbers runner.old }
+    ensures fed { OnOk result (TakesItems tested.numbers runner.new) }
+    ensures position { OnOk result (position_of runner.new ≡ 0) }
 {
-    let mut runner = begun(alloc, checked)?;
-    values(alloc, &mut runner)
+    runner.reset(alloc)
 }
 
-fn stored_at_first(alloc: Global, checked: &Checked) -> Result<u64, AllocError>
-    requires stream { checked.now.layout.columns ≡ tested.numbers }
-    requires composes { composes_of (plain_of checked.now.main.shape) ≤ 1 }
+fn begins_anew(rt: &impl Abort, alloc: Global, runner: &mut Runner<'_>) -> Result<(), Fail>
+    requires { TakesItems tested.numbers runner.old }
 {
-    Ok(begun(alloc, checked)?.stored())
-}
-
-#[test]
-fn a_runner_has_the_value_of_each_word(rt: HostRuntime) -> Result<(), Fail> {
-    let checked = checked_difference(rt.alloc())?;
-    same(&rt, values_of(rt.alloc(), &checked)?, (None, None, Some(5)));
+    begin_anew(alloc, runner)?;
+    same(rt, (value(runner), runner.stored()), (Some(0), 10));
+    same(rt, value_after(alloc, runner, 4)?, Some(3));
     Ok(())
 }
 
 #[test]
 fn a_runner_folds_items_in_two_ways(rt: HostRuntime) -> Result<(), Fail> {
     let checked = checked_excess(rt.alloc())?;
-    same(
-        &rt,
-        values_of(rt.alloc(), &checked)?,
-        (Some(0), Some(8), Some(11)),
-    );
-    same(&rt, stored_at_first(rt.alloc(), &checked)?, 10);
-    Ok(())
-}
-
-#[test]
-fn a_runner_sums_the_sums_of_the_prefixes(rt: HostRuntime) -> Result<(), Fail> {
-    let checked = checked_total(rt.alloc())?;
-    same(
-        &rt,
-        values_of(rt.alloc(), &checked)?,
-        (Some(0), Some(9), Some(22)),
-    );
-    Ok(())
+    let mut runner = begun(rt.alloc(), &checked)?;
+    folds(&rt, rt.alloc(), &mut runner)?;
+    begins_anew(&rt, rt.alloc(), &mut runner)
 }

@@ -1,5 +1,5 @@
-//! Calls of `item_schema`, `predicate_cells`, `plain_items` and `item_lines` with ample memory, and
-//! what they give at their edges. They stand here because a crate with tests is proved twice.
+//! Calls of `predicate_cells`, `plain_items`, `item_lines` and `line_reader` with ample memory,
+//! where a run of a program shows less. They stand here because a crate with tests is proved twice.
 #![tactic(auto)]
 
 #[cfg(test)]
@@ -7,12 +7,6 @@ mod assertions;
 #[cfg(test)]
 mod cells;
 #[cfg(test)]
-mod items;
-#[cfg(test)]
-mod lines;
-#[cfg(test)]
-mod long_lines;
-#[cfg(test)]
-mod schemas;
+mod fixtures;
 #[cfg(test)]
 mod shown_lines;

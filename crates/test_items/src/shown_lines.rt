@@ -3,11 +3,14 @@
 ghost use Rattle.value_ops.specs.Types.{IsType};
 
 use crate::assertions::same;
-use crate::lines::two_columns;
+use crate::fixtures::two_columns;
 use item_lines::{is_shown, shown_line, shown_lines_are_read_to_their_items};
 use item_schema::{Item, Kind, Schema};
 use language_base::Bytes;
-use line_reader::read_item;
+use line_reader::{
+    lines_are_cut_outside_quotes, lines_are_skipped_for_their_texts,
+    lines_have_items_of_their_columns, lines_write_their_items, read_item,
+};
 use plain_items::plain_item;
 use predicate_cells::Cells;
 use predicates::{Pred, Preds};
@@ -30,67 +33,31 @@ fn shows(alloc: Global, schema: &Schema, line: &[u8], wanted: Option<&[u8]>) -> 
     Ok(is_line(&shown, wanted))
 }
 
-// The first line whose item is shown otherwise than it should be.
-fn misshown<'a>(
-    alloc: Global,
-    schema: &Schema,
-    cases: &[(&'a [u8], &[u8])],
-) -> Result<Option<&'a [u8]>, Fail> {
-    for (line, wanted) in cases {
-        if !shows(alloc, schema, line, Some(*wanted))? {
-            return Ok(Some(*line));
-        }
-    }
-    Ok(None)
-}
-
-const TYPED: [(&'static [u8], &'static [u8]); 5] = [
-    (b"+007.5,north", b"7.50,north"),
-    (b"-0.05,north east", b"-0.05,north east"),
-    (b"0, a ", b"0.00, a "),
-    (b"0,caf\xC3\xA9", b"0.00,caf\xC3\xA9"),
-    (b"-92233720368547758.08,x", b"-92233720368547758.08,x"),
+// No texts are shown, nor characters that move the cursor.
+const LINES: &[(&[u8], Option<&[u8]>)] = &[
+    (b"+007.5,north", Some(b"7.50,north")),
+    (b"-0.05,north east", Some(b"-0.05,north east")),
+    (b"0, a ", Some(b"0.00, a ")),
+    (b"0,caf\xC3\xA9", Some(b"0.00,caf\xC3\xA9")),
+    (b"-92233720368547758.08,x", Some(b"-92233720368547758.08,x")),
+    (b"12,", Some(b"12.00,\"\"")),
+    (b"0,\"a,b\"", Some(b"0.00,\"a,b\"")),
+    (b"0,5\" pipe", Some(b"0.00,\"5\"\" pipe\"")),
+    (b"0,\xEF\xBB\xBFa", Some(b"0.00,\"\xEF\xBB\xBFa\"")),
+    (b"0,a\tb", None),
+    (b"0,\x1B[2J", None),
+    (b"0,\xC2\x9B2J", None),
+    (b"0,\xFF", None),
 ];
 
 #[test]
 fn an_item_is_shown_as_a_person_types_it(rt: HostRuntime) -> Result<(), Fail> {
     let schema = two_columns(rt.alloc(), Kind::Fixed(2), Kind::Text)?;
-    same(&rt, misshown(rt.alloc(), &schema, &TYPED)?, None);
-    shown_lines_are_read_to_their_items();
-    Ok(())
-}
-
-const QUOTED: [(&'static [u8], &'static [u8]); 4] = [
-    (b"12,", b"12,\"\""),
-    (b"0,\"a,b\"", b"0,\"a,b\""),
-    (b"0,5\" pipe", b"0,\"5\"\" pipe\""),
-    (b"0,\xEF\xBB\xBFa", b"0,\"\xEF\xBB\xBFa\""),
-];
-
-#[test]
-fn a_text_is_shown_between_quotes_where_it_needs_them(rt: HostRuntime) -> Result<(), Fail> {
-    let schema = two_columns(rt.alloc(), Kind::Int, Kind::Text)?;
-    same(&rt, misshown(rt.alloc(), &schema, &QUOTED)?, None);
-    Ok(())
-}
-
-// The first line whose item is shown.
-fn shown<'a>(alloc: Global, schema: &Schema, lines: &[&'a [u8]]) -> Result<Option<&'a [u8]>, Fail> {
-    for line in lines {
-        if !shows(alloc, schema, line, None)? {
-            return Ok(Some(*line));
-        }
+    for &(line, wanted) in LINES {
+        let is_shown_so = shows(rt.alloc(), &schema, line, wanted)?;
+        same(&rt, (line, is_shown_so), (line, true));
     }
-    Ok(None)
-}
-
-// No texts, and characters that move the cursor.
-const LEFT_OUT: [&'static [u8]; 4] = [b"0,a\tb", b"0,\x1B[2J", b"0,\xC2\x9B2J", b"0,\xFF"];
-
-#[test]
-fn a_line_that_is_no_plain_text_is_not_shown(rt: HostRuntime) -> Result<(), Fail> {
-    let schema = two_columns(rt.alloc(), Kind::Int, Kind::Text)?;
-    same(&rt, shown(rt.alloc(), &schema, &LEFT_OUT)?, None);
+    shown_lines_are_read_to_their_items();
     Ok(())
 }
 
@@ -181,29 +148,7 @@ fn is_plainest(alloc: Global, cells: &Cells, line: &[u8], wanted: &[u8]) -> Resu
     Ok(is_line(&shown, Some(wanted)))
 }
 
-// The first line whose cell has another plainest item.
-fn mischosen<'a>(
-    alloc: Global,
-    cells: &Cells,
-    cases: &[(&'a [u8], &[u8])],
-) -> Result<Option<&'a [u8]>, Fail> {
-    for (line, wanted) in cases {
-        if !is_plainest(alloc, cells, line, wanted)? {
-            return Ok(Some(*line));
-        }
-    }
-    Ok(None)
-}
-
-// The same of the lines below.
-fn mischosen_under(alloc: Global, schema: &Schema) -> Result<Option<&'static [u8]>, Fail> {
-    match cells_under(alloc, schema)? {
-        None => Ok(Some(b"no cells")),
-        Some(cells) => mischosen(alloc, &cells, &PLAINEST),
-    }
-}
-
-const PLAINEST: [(&'static [u8], &'static [u8]); 6] = [
+const PLAINEST: &[(&[u8], &[u8])] = &[
     (b"-100,south", b"-8,other"),
     (b"9,north", b"0,north"),
     (b"-7,", b"0,other"),
@@ -215,6 +160,18 @@ const PLAINEST: [(&'static [u8], &'static [u8]); 6] = [
 #[test]
 fn the_plainest_item_has_numbers_near_zero(rt: HostRuntime) -> Result<(), Fail> {
     let schema = two_columns(rt.alloc(), Kind::Int, Kind::Text)?;
-    same(&rt, mischosen_under(rt.alloc(), &schema)?, None);
+    let cells = cells_under(rt.alloc(), &schema)?.ok_or("the tests do not fit")?;
+    for &(line, wanted) in PLAINEST {
+        let is_so = is_plainest(rt.alloc(), &cells, line, wanted)?;
+        same(&rt, (line, is_so), (line, true));
+    }
     Ok(())
+}
+
+#[test]
+fn laws_of_lines(_rt: HostRuntime) {
+    lines_write_their_items();
+    lines_are_skipped_for_their_texts();
+    lines_have_items_of_their_columns();
+    lines_are_cut_outside_quotes();
 }

@@ -1,18 +1,8 @@
-// Assertions as calls, since the text that a macro has for a failure is written out at each place
+// An assertion as a call, since the text that a macro has for a failure is written out at each place
 // where it stands.
 use std::fmt::Debug;
 use std::process::Abort;
 
 pub fn same<T: PartialEq + Debug + Drop>(rt: &impl Abort, found: T, wanted: T) {
     assert_eq!(rt; found, wanted);
-}
-
-// The same for one case of a table.
-pub fn same_at<C: Debug + Drop, T: PartialEq + Debug + Drop>(
-    rt: &impl Abort,
-    at: C,
-    found: T,
-    wanted: T,
-) {
-    assert_eq!(rt; found, wanted, "at {at:?}");
 }

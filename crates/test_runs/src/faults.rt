@@ -1,7 +1,7 @@
 // A read or a write fails, at each place where it may. What is written are the answers to the whole
 // lines before it, or the bytes that the sink took. All reads are of one byte.
-use crate::assertions::{same, same_at};
-use crate::fixtures::{Given, READS, SUM, outcome, run_of, sum_over};
+use crate::assertions::same;
+use crate::fixtures::{Given, READS, SUM, gives, run_of, sum_over};
 use std::test::Fail;
 use stream_run::Status;
 
@@ -27,9 +27,7 @@ fn each_read_of_the_items_fails(rt: HostRuntime) -> Result<(), Fail> {
             cut: 1,
             ..sum_over(b"5\n7\n-2\n")
         };
-        let (status, bytes) = outcome(rt.alloc(), given)?;
-        same_at(&rt, number, status, Status::ItemFault);
-        same_at(&rt, number, bytes.as_slice(), written);
+        gives(&rt, rt.alloc(), given, Status::ItemFault, written)?;
     }
     Ok(())
 }
@@ -43,9 +41,7 @@ fn each_read_of_the_query_fails(rt: HostRuntime) -> Result<(), Fail> {
             cut: 1,
             ..sum_over(b"5\n7\n-2\n")
         };
-        let (status, bytes) = outcome(rt.alloc(), given)?;
-        same_at(&rt, number, status, Status::QueryFault);
-        assert!(rt; bytes.is_empty(), "at read {number}");
+        gives(&rt, rt.alloc(), given, Status::QueryFault, b"")?;
     }
     same(&rt, SUM.len(), 66);
     Ok(())
@@ -66,9 +62,7 @@ fn each_write_fails(rt: HostRuntime) -> Result<(), Fail> {
             cut: 1,
             ..run_of(BY_KEY, b"A,1\nB,2\ntick,0\nA,5\ntick,0\n")
         };
-        let (status, bytes) = outcome(rt.alloc(), given)?;
-        same_at(&rt, number, status, Status::SinkFault);
-        same_at(&rt, number, bytes.as_slice(), written);
+        gives(&rt, rt.alloc(), given, Status::SinkFault, written)?;
     }
     Ok(())
 }
@@ -80,9 +74,7 @@ fn a_line_is_cut_where_its_second_write_fails(rt: HostRuntime) -> Result<(), Fai
         writes_fail: &[2],
         ..sum_over(b"5\n7\n-2\n")
     };
-    let (status, bytes) = outcome(rt.alloc(), given)?;
-    same(&rt, status, Status::SinkFault);
-    same(&rt, bytes.as_slice(), b"5".as_slice());
+    gives(&rt, rt.alloc(), given, Status::SinkFault, b"5")?;
     Ok(())
 }
 
@@ -94,9 +86,7 @@ fn the_cuts_of_the_writes_change_nothing(rt: HostRuntime) -> Result<(), Fail> {
         cut: 1,
         ..run_of(BY_KEY, b"A,1\nB,2\ntick,0\nA,5\ntick,0\n")
     };
-    let (status, bytes) = outcome(rt.alloc(), given)?;
-    same(&rt, status, Status::Done);
     let written = b"undefined\nundefined\n{\"A\":1,\"B\":2}\nundefined\n{\"A\":6,\"B\":2}\n";
-    same(&rt, bytes.as_slice(), written.as_slice());
+    gives(&rt, rt.alloc(), given, Status::Done, written)?;
     Ok(())
 }

@@ -1,7 +1,9 @@
 // What a run is given, and what it gives.
+use crate::assertions::same;
 use io_edge::{MemorySink, MemorySource};
 use sqre_run::sqre;
 use std::alloc::{AllocError, Global};
+use std::process::Abort;
 use stream_run::Status;
 
 pub const SUM: &[u8] = b"stream(plain, col(a, int))\nmain(iter(atom(any, a), 0, add(x, y)))\n";
@@ -58,6 +60,20 @@ pub fn outcome(alloc: Global, given: Given<'_>) -> Result<(Status, Vec<u8>), All
     let mut out = MemorySink::with_cuts(alloc, given.room, given.write_cuts, given.writes_fail)?;
     let status = run(alloc, &words, given, &mut out)?;
     Ok((status, Vec::from_slice(alloc, out.bytes())?))
+}
+
+// The run ends with this status, and these are the bytes that it wrote.
+pub fn gives(
+    rt: &impl Abort,
+    alloc: Global,
+    given: Given<'_>,
+    wanted: Status,
+    written: &[u8],
+) -> Result<(), AllocError> {
+    let (status, bytes) = outcome(alloc, given)?;
+    let found = (given.words, status, bytes.as_slice());
+    same(rt, found, (given.words, wanted, written));
+    Ok(())
 }
 
 fn run(

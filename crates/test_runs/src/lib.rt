@@ -1,5 +1,5 @@
-//! Calls of `sqre_run`, `explanation` and `explain_run`, and the bytes that they write. They stand
-//! here because a crate with tests is proved twice.
+//! Calls of `sqre_run`, `stream_run` and `explain_run`, and the bytes that they write where something
+//! fails or a run is long. They stand here because a crate with tests is proved twice.
 #![tactic(auto)]
 
 #[cfg(test)]
@@ -8,10 +8,6 @@ mod assertions;
 mod commands;
 #[cfg(test)]
 mod compilation;
-#[cfg(test)]
-mod engines;
-#[cfg(test)]
-mod explanations;
 #[cfg(test)]
 mod faults;
 #[cfg(test)]
@@ -24,8 +20,6 @@ mod output_order;
 mod reasons;
 #[cfg(test)]
 mod refusals;
-#[cfg(test)]
-mod reported_places;
 #[cfg(test)]
 mod runs;
 #[cfg(test)]

@@ -1,20 +1,12 @@
 // Runs over many items, whose answers are those of a plain loop, and how much is kept meanwhile.
-ghost use Rattle.std.specs.Prelude.{◌≡◌, IfOk};
-
 use crate::assertions::same;
 use crate::compilation::compiled;
-use crate::fixtures::{Given, SUM, outcome, run_of, sum_over};
+use crate::fixtures::{Given, SUM, outcome, run_of};
 use eval_runner::Runner;
-use item_drill::Drill;
-use item_schema::{Column, Kind, Schema};
-use language_base::Bytes;
-use line_reader::read_item;
 use query_model::Follower;
 use std::alloc::{AllocError, Global};
-use std::process::Abort;
 use std::test::Fail;
 use stream_run::{Reply, Session, Status};
-use value_ops::Field;
 
 // The number of lines that each of the three queries below is run on.
 const LINES: u64 = 20_000;
@@ -36,115 +28,6 @@ main(compose(iter(atom(any, a), 0, add(x, y)), iter(atom(any, value), 0, max(x, 
 const SUM_OF_KEYS: &[u8] = b"stream(plain, col(k, text), col(a, int))
 main(apply(collect(k, not(any), star(item(any)), iter(atom(any, a), 0, add(x, y))), tsum(x)))
 ";
-
-// The column of the items that are summed.
-fn column(alloc: Global) -> Result<Column, AllocError>
-    ensures { IfOk result (λ column. column.kind ≡ Kind.Int) }
-{
-    Ok(Column {
-        name: Bytes::from_slice(alloc, b"a")?,
-        kind: Kind::Int,
-    })
-}
-
-// The number on a line, without its LF.
-fn number_on(alloc: Global, schema: &Schema, line: &[u8]) -> i64 {
-    match read_item(alloc, schema, line.strip_suffix(b"\n").unwrap_or(line)) {
-        Ok(item) => match item.fields() {
-            [Field::Int(number)] => *number,
-            _ => 0,
-        },
-        Err(_) => 0,
-    }
-}
-
-fn lines_in(bytes: &[u8]) -> u64 {
-    let mut lines: u64 = 0;
-    for &byte in bytes {
-        if byte == b'\n' {
-            lines = lines.saturating_add(1);
-        }
-    }
-    lines
-}
-
-// Lines, and the sum of the numbers on them.
-#[derive(Drop)]
-struct Drawn {
-    lines: Vec<u8>,
-    sum: i64,
-}
-
-fn draw_line(
-    alloc: Global,
-    schema: &Schema,
-    drill: &mut Drill<'_>,
-    drawn: &mut Drawn,
-) -> Result<(), AllocError> {
-    let line = drill.line(alloc)?;
-    let number = number_on(alloc, schema, line.as_slice());
-    drawn.sum = drawn.sum.wrapping_add(number);
-    drawn.lines.extend_from_slice(line.as_slice())
-}
-
-fn million_lines(alloc: Global) -> Result<Drawn, AllocError> {
-    let columns = vec![in alloc; column(alloc)?]?;
-    let schema = Schema::new(false, columns);
-    let mut drill = Drill::new(&schema, 0);
-    let mut drawn = Drawn {
-        lines: Vec::new(alloc),
-        sum: 0,
-    };
-    for _ in 0..1_000_000 {
-        draw_line(alloc, &schema, &mut drill, &mut drawn)?;
-    }
-    Ok(drawn)
-}
-
-// A line for each of a million items; the last line is the sum.
-fn answers_with_sum(
-    rt: &impl Abort,
-    alloc: Global,
-    given: Given<'_>,
-    sum: i64,
-) -> Result<(), AllocError> {
-    let (status, bytes) = outcome(alloc, given)?;
-    let last = format!(in alloc; "\n{sum}\n")?;
-    same(rt, status, Status::Done);
-    same(rt, lines_in(&bytes), 1_000_000);
-    same(rt, bytes.ends_with(last.as_bytes()), true);
-    Ok(())
-}
-
-fn drills_to_sum(
-    rt: &impl Abort,
-    alloc: Global,
-    given: Given<'_>,
-    sum: i64,
-) -> Result<(), AllocError> {
-    let (status, bytes) = outcome(alloc, given)?;
-    let line = format!(in alloc; "items 1000000 defined 1000000 last {sum}\n")?;
-    same(rt, status, Status::Done);
-    same(rt, bytes.as_slice(), line.as_bytes());
-    Ok(())
-}
-
-#[test]
-fn a_million_items_are_summed(rt: HostRuntime) -> Result<(), Fail> {
-    let alloc = rt.alloc();
-    let drawn = million_lines(alloc)?;
-    let given = Given {
-        room: 16_777_216,
-        ..sum_over(&drawn.lines)
-    };
-    answers_with_sum(&rt, alloc, given, drawn.sum)?;
-    let given = Given {
-        words: "drill q 1000000 0",
-        ..given
-    };
-    drills_to_sum(&rt, alloc, given, drawn.sum)?;
-    Ok(())
-}
 
 // The numbers from 1 to this one, each on a line of its own.
 fn numbers_to(alloc: Global, last: u64) -> Result<Vec<u8>, AllocError> {

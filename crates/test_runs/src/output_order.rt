@@ -2,7 +2,7 @@
 // flushed.
 ghost use Rattle.std.specs.Prelude.{◌-◌, None, Some};
 
-use crate::assertions::same_at;
+use crate::assertions::same;
 use crate::fixtures::{SUM, words_of};
 use io_edge::{Failed, MemorySource, Sink, Source, SteadySource};
 use sqre_run::sqre;
@@ -105,8 +105,7 @@ fn each_read_comes_after_the_answers_to_all_lines_before_it(rt: HostRuntime) -> 
     ];
     for (cuts, wanted) in table {
         let (seen, at_end) = seen_at_reads(rt.alloc(), cuts)?;
-        same_at(&rt, cuts, seen.as_slice(), wanted.as_slice());
-        same_at(&rt, cuts, at_end, 8);
+        same(&rt, (seen.as_slice(), at_end), (wanted.as_slice(), 8));
     }
     Ok(())
 }

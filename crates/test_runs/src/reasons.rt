@@ -1,6 +1,5 @@
 // The command `why`. It reads no item: the source of the items fails at once.
-use crate::assertions::same_at;
-use crate::fixtures::{Given, SUM, outcome, sum_over};
+use crate::fixtures::{Given, SUM, gives, sum_over};
 use std::alloc::{AllocError, Global};
 use std::process::Abort;
 use std::test::Fail;
@@ -44,10 +43,7 @@ fn says(
         item_fails: &[1],
         ..sum_over(b"5\n")
     };
-    let (status, bytes) = outcome(alloc, given)?;
-    same_at(rt, written, status, wanted);
-    same_at(rt, written, bytes.as_slice(), written);
-    Ok(())
+    gives(rt, alloc, given, wanted, written)
 }
 
 #[test]
@@ -111,13 +107,7 @@ fn a_fault_of_the_sink_ends_a_word(rt: HostRuntime) -> Result<(), Fail> {
         room: 30,
         ..sum_over(b"5\n")
     };
-    let (status, bytes) = outcome(rt.alloc(), given)?;
-    same_at(&rt, "why q", status, Status::SinkFault);
-    same_at(
-        &rt,
-        "why q",
-        bytes.as_slice(),
-        b"refused choice 32..72\nitem 5\nf".as_slice(),
-    );
+    let written = b"refused choice 32..72\nitem 5\nf";
+    gives(&rt, rt.alloc(), given, Status::SinkFault, written)?;
     Ok(())
 }

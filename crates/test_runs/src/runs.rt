@@ -1,9 +1,9 @@
 // What no clause says: that runs come to an end, and the very bytes that they write. The program
 // `cases_queries` shows more lines, queries and refusals.
-use crate::assertions::{same, same_at};
-use crate::fixtures::{Given, SUM, outcome, run_of, sum_over, words_of};
-use io_edge::{MemorySource, SteadySink, SteadySource};
-use sqre_run::{run_into_room, sqre};
+use crate::assertions::same;
+use crate::fixtures::{Given, SUM, gives, run_of, sum_over, words_of};
+use io_edge::{MemorySource, SteadySource};
+use sqre_run::run_into_room;
 use std::alloc::{AllocError, Global};
 use std::test::Fail;
 use stream_run::Status;
@@ -11,33 +11,6 @@ use stream_run::Status;
 const PRICES: &[u8] = b"stream(header, col(sym, text), col(price, fixed(2)))
 main(iter(atom(any, price), 0, add(x, y)))
 ";
-
-#[test]
-fn the_cuts_of_the_reads_change_nothing(rt: HostRuntime) -> Result<(), Fail> {
-    for cut in 1..9 {
-        let given = Given {
-            cut,
-            ..sum_over(b"5\n7\n-2\n")
-        };
-        let (status, bytes) = outcome(rt.alloc(), given)?;
-        same_at(&rt, cut, status, Status::Done);
-        same_at(&rt, cut, bytes.as_slice(), b"5\n12\n10\n".as_slice());
-    }
-    Ok(())
-}
-
-// Of what was taken, only the length is reported.
-#[test]
-fn a_run_needs_no_source_that_fails(rt: HostRuntime) -> Result<(), Fail> {
-    let words = words_of(rt.alloc(), "run q -")?;
-    let mut query = SteadySource::new(rt.alloc(), SUM)?;
-    let mut items = SteadySource::new(rt.alloc(), b"5\n7\n-2\n")?;
-    let mut out = SteadySink::new();
-    let status = sqre(rt.alloc(), &words, &mut query, &mut items, &mut out);
-    same(&rt, status, Status::Done);
-    same(&rt, out.count(), 8);
-    Ok(())
-}
 
 // The words, the query, which reads of it fail, the status, and what is written.
 const NOT_BEGUN: &[(&str, &[u8], &[u64], Status, &[u8])] = &[
@@ -68,9 +41,7 @@ fn a_run_that_is_not_begun_reads_nothing(rt: HostRuntime) -> Result<(), Fail> {
             item_fails: &[1],
             ..sum_over(b"5\n7\n")
         };
-        let (status, bytes) = outcome(rt.alloc(), given)?;
-        same_at(&rt, words, status, wanted);
-        same_at(&rt, words, bytes.as_slice(), written);
+        gives(&rt, rt.alloc(), given, wanted, written)?;
     }
     Ok(())
 }
@@ -91,9 +62,7 @@ fn a_fault_ends_the_run_after_the_last_answer(rt: HostRuntime) -> Result<(), Fai
             writes_fail,
             ..sum_over(b"5\n7")
         };
-        let (status, bytes) = outcome(rt.alloc(), given)?;
-        same_at(&rt, room, status, wanted);
-        same_at(&rt, room, bytes.as_slice(), written);
+        gives(&rt, rt.alloc(), given, wanted, written)?;
     }
     Ok(())
 }
@@ -132,13 +101,16 @@ fn long_lines_are_skipped_or_the_header(rt: HostRuntime) -> Result<(), Fail> {
     items.extend_from_slice(b"5\n")?;
     items.extend_from_slice(&[b'0'; 65_537])?;
     items.extend_from_slice(b"\n7\n")?;
-    let (status, bytes) = outcome(rt.alloc(), sum_over(&items))?;
-    same(&rt, status, Status::Done);
-    same(&rt, bytes.as_slice(), b"5\nskipped long 0\n12\n".as_slice());
+    let written = b"5\nskipped long 0\n12\n";
+    gives(&rt, rt.alloc(), sum_over(&items), Status::Done, written)?;
     let mut items = vec![in rt.alloc(); b'0'; 65_537]?;
     items.extend_from_slice(b"\nA,0.07\n")?;
-    let (status, bytes) = outcome(rt.alloc(), run_of(PRICES, &items))?;
-    same(&rt, status, Status::Done);
-    same(&rt, bytes.as_slice(), b"7\n".as_slice());
+    gives(
+        &rt,
+        rt.alloc(),
+        run_of(PRICES, &items),
+        Status::Done,
+        b"7\n",
+    )?;
     Ok(())
 }

@@ -1,16 +1,32 @@
 // The lists of followers after each call, empty, full and between, with ample memory. A follower is
 // a number here.
-use crate::assertions::{same, same_at};
+ghost use Rattle.std.specs.Prelude.{◌+◌, ◌<◌, IsTrue, length};
+
+use crate::assertions::same;
 use compose_eval::Instances;
 use std::alloc::{AllocError, Global};
 use std::process::Abort;
 use std::test::Fail;
 
+fn has_room(instances: &Instances<u64>) -> bool
+    ensures { IsTrue result
+        → length instances.now.live + length instances.now.idle < instances.now.room }
+{
+    let spare = (instances.room() as usize).saturating_sub(instances.len());
+    instances.idle() < spare
+}
+
 // Adds an idle follower if there is room.
 fn rest(instances: &mut Instances<u64>, follower: u64) {
-    let spare = (instances.room() as usize).saturating_sub(instances.len());
-    if instances.idle() < spare {
+    if has_room(instances) {
         instances.rest(follower);
+    }
+}
+
+// Feeds one that was not idle if there is room and none is fed from the start.
+fn put(instances: &mut Instances<u64>, outer: u64, follower: u64) {
+    if has_room(instances) && instances.place(outer).is_none() {
+        instances.put(outer, follower);
     }
 }
 
@@ -21,148 +37,56 @@ fn wake(instances: &mut Instances<u64>, outer: u64) {
     }
 }
 
-// Three idle followers, with room for three.
-fn resting(alloc: Global) -> Result<Instances<u64>, AllocError> {
+// Three followers, fed from 30, 20 and 10.
+fn fed(alloc: Global) -> Result<Instances<u64>, AllocError> {
     let mut instances = Instances::new(alloc, 3)?;
     rest(&mut instances, 1);
     rest(&mut instances, 2);
-    rest(&mut instances, 3);
+    put(&mut instances, 30, 3);
     rest(&mut instances, 4);
-    Ok(instances)
-}
-
-// The same three followers, fed from 30, 20 and 10.
-fn fed(alloc: Global) -> Result<Instances<u64>, AllocError> {
-    let mut instances = resting(alloc)?;
-    wake(&mut instances, 30);
     wake(&mut instances, 20);
     wake(&mut instances, 10);
     wake(&mut instances, 40);
     Ok(instances)
 }
 
-fn same_outers(rt: &impl Abort, instances: &Instances<u64>, wanted: &[u64]) {
+// The starts of those that are fed, and these.
+fn same_live(rt: &impl Abort, instances: &Instances<u64>, wanted: &[(u64, u64)]) {
     same(rt, instances.len(), wanted.len());
     for i in 0..instances.len() {
-        same_at(rt, i, Some(instances.outer(i)), wanted.get(i).copied());
+        let found = (instances.outer(i), *instances.follower(i));
+        same(rt, Some(found), wanted.get(i).copied());
     }
 }
 
 fn same_idle(rt: &impl Abort, instances: &Instances<u64>, wanted: &[u64]) {
     same(rt, instances.idle(), wanted.len());
     for i in 0..instances.idle() {
-        same_at(rt, i, Some(*instances.resting(i)), wanted.get(i).copied());
+        same(rt, Some(*instances.resting(i)), wanted.get(i).copied());
     }
 }
 
-fn same_live(rt: &impl Abort, instances: &Instances<u64>, wanted: &[u64]) {
-    same(rt, instances.len(), wanted.len());
-    for i in 0..instances.len() {
-        same_at(rt, i, Some(*instances.follower(i)), wanted.get(i).copied());
-    }
-}
-
-fn same_followers(rt: &impl Abort, instances: &Instances<u64>, live: &[u64], idle: &[u64]) {
-    same_live(rt, instances, live);
-    same_idle(rt, instances, idle);
-}
-
-#[test]
-fn the_room_is_for_both_lists_together(rt: HostRuntime) -> Result<(), Fail> {
-    let instances = resting(rt.alloc())?;
-    same(&rt, instances.room(), 3);
-    same(&rt, instances.len(), 0);
-    same(&rt, instances.idle(), 3);
-    let fed = fed(rt.alloc())?;
-    same(&rt, fed.len(), 3);
-    same(&rt, fed.idle(), 0);
-    Ok(())
-}
-
-#[test]
-fn the_last_idle_one_is_woken(rt: HostRuntime) -> Result<(), Fail> {
-    let instances = fed(rt.alloc())?;
-    same_outers(&rt, &instances, &[30, 20, 10]);
-    same_followers(&rt, &instances, &[3, 2, 1], &[]);
-    Ok(())
-}
-
-#[test]
-fn a_follower_is_found_by_its_start_and_written_to(rt: HostRuntime) -> Result<(), Fail> {
-    let mut instances = fed(rt.alloc())?;
-    same(&rt, instances.place(2), None);
-    let place = instances.place(20);
-    same(&rt, place, Some(1));
-    if let Some(place) = place {
+// Writes to the follower that is fed from the start, and to the first idle one.
+fn write(instances: &mut Instances<u64>, outer: u64) {
+    if let Some(place) = instances.place(outer) {
         *instances.follower_mut(place) = 200;
     }
-    same_outers(&rt, &instances, &[30, 20, 10]);
-    same_followers(&rt, &instances, &[3, 200, 1], &[]);
-    Ok(())
-}
-
-#[test]
-fn an_idle_one_is_written_to(rt: HostRuntime) -> Result<(), Fail> {
-    let mut instances = resting(rt.alloc())?;
-    if instances.idle() > 1 {
-        *instances.resting_mut(1) = 20;
+    if instances.idle() > 0 {
+        *instances.resting_mut(0) = 100;
     }
-    same_followers(&rt, &instances, &[], &[1, 20, 3]);
-    Ok(())
 }
 
 #[test]
-fn the_others_keep_their_order_where_one_is_not_live(rt: HostRuntime) -> Result<(), Fail> {
+fn followers_are_woken_and_come_to_rest(rt: HostRuntime) -> Result<(), Fail> {
     let mut instances = fed(rt.alloc())?;
-    instances.keep(|start| start != 20);
-    same_outers(&rt, &instances, &[30, 10]);
-    same_followers(&rt, &instances, &[3, 1], &[2]);
-    Ok(())
-}
-
-#[test]
-fn followers_come_to_rest_in_their_order(rt: HostRuntime) -> Result<(), Fail> {
-    let mut instances = fed(rt.alloc())?;
+    same_live(&rt, &instances, &[(30, 3), (20, 2), (10, 1)]);
+    same_idle(&rt, &instances, &[]);
     instances.keep(|start| start == 20);
-    same_followers(&rt, &instances, &[2], &[3, 1]);
-    instances.keep(|_| false);
-    same(&rt, instances.len(), 0);
-    same_followers(&rt, &instances, &[], &[3, 1, 2]);
+    same_live(&rt, &instances, &[(20, 2)]);
+    same_idle(&rt, &instances, &[3, 1]);
+    write(&mut instances, 20);
     wake(&mut instances, 50);
-    same_outers(&rt, &instances, &[50]);
-    same_followers(&rt, &instances, &[2], &[3, 1]);
-    Ok(())
-}
-
-#[test]
-fn one_may_begin_without_having_been_idle(rt: HostRuntime) -> Result<(), Fail> {
-    let mut instances = Instances::new(rt.alloc(), 1)?;
-    instances.put(7, 70);
-    wake(&mut instances, 8);
-    rest(&mut instances, 80);
-    same_outers(&rt, &instances, &[7]);
-    same_followers(&rt, &instances, &[70], &[]);
-    Ok(())
-}
-
-// A follower that has instances of its own kind, as a compose in a compose has.
-#[derive(Drop)]
-struct Nest {
-    depth: u64,
-    inner: Instances<Nest>,
-}
-
-#[test]
-fn a_follower_may_have_instances(rt: HostRuntime) -> Result<(), Fail> {
-    let deepest = Nest {
-        depth: 2,
-        inner: Instances::new(rt.alloc(), 0)?,
-    };
-    let mut inner = Instances::new(rt.alloc(), 1)?;
-    inner.put(5, deepest);
-    let nest = Nest { depth: 1, inner };
-    same(&rt, nest.depth, 1);
-    same(&rt, nest.inner.follower(0).depth, 2);
-    same(&rt, nest.inner.follower(0).inner.len(), 0);
+    same_live(&rt, &instances, &[(20, 200), (50, 1)]);
+    same_idle(&rt, &instances, &[100]);
     Ok(())
 }

@@ -1,5 +1,5 @@
-//! Calls of `split_eval`, `iter_eval`, `compose_eval` and `map_collect` with ample memory. They
-//! stand here because a crate with tests is proved twice.
+//! Calls of `split_eval`, `iter_eval`, `compose_eval` and `map_collect` with ample memory, where a
+//! run of a program shows less. They stand here because a crate with tests is proved twice.
 #![tactic(auto)]
 
 #[cfg(test)]
@@ -12,5 +12,3 @@ mod instances;
 mod keys;
 #[cfg(test)]
 mod pending;
-#[cfg(test)]
-mod tracks;

@@ -1,6 +1,6 @@
 // The longest texts, and the canonical text. The program `cases_queries` shows the other rules of
 // reading at their edges.
-use crate::assertions::same;
+use crate::assertions::{same, same_at};
 use language_base::Bytes;
 use query_parser::{ReadStop, print_file, read_file};
 use std::alloc::{AllocError, Global};
@@ -17,84 +17,59 @@ fn refusal_of(alloc: Global, text: &[u8]) -> Option<(u8, u32, u32)> {
     }
 }
 
-fn repeated(alloc: Global, piece: &[u8], count: u32) -> Result<Vec<u8>, AllocError> {
-    let mut text = Vec::new(alloc);
+fn push_repeated(text: &mut Vec<u8>, piece: &[u8], count: u32) -> Result<(), AllocError> {
     for _ in 0..count {
         text.extend_from_slice(piece)?;
     }
+    Ok(())
+}
+
+// A text of two parts with this many pieces between them.
+fn filled(
+    alloc: Global,
+    before: &[u8],
+    (count, piece): (u32, &[u8]),
+    after: &[u8],
+) -> Result<Vec<u8>, AllocError> {
+    let mut text = Vec::from_slice(alloc, before)?;
+    push_repeated(&mut text, piece, count)?;
+    text.extend_from_slice(after)?;
     Ok(text)
 }
 
-#[test]
-fn an_empty_text_is_no_file(rt: HostRuntime) {
-    same(&rt, refusal_of(rt.alloc(), b""), Some((5, 0, 0)));
-}
+const COMMENTED: &[u8] = b"stream(plain,col(a,int))main(atom(any,a))#";
+
+// How often a piece stands behind a part, and the rule by which that is refused, with its place.
+const TEXTS: &[(&[u8], u32, &[u8], Option<(u8, u32, u32)>)] = &[
+    (b"", 0, b"", Some((5, 0, 0))),
+    (b"", 65_536, b" ", Some((5, 65_536, 65_536))),
+    (b"", 65_537, b" ", Some((1, 65_536, 65_537))),
+    (COMMENTED, 65_494, b"x", None),
+    (COMMENTED, 65_495, b"x", Some((1, 65_536, 65_537))),
+];
 
 #[test]
 fn a_text_has_65_536_bytes_at_the_most(rt: HostRuntime) -> Result<(), Fail> {
-    let alloc = rt.alloc();
-    let blank = repeated(alloc, b" ", 65_536)?;
-    same(&rt, refusal_of(alloc, &blank), Some((5, 65_536, 65_536)));
-    let blank = repeated(alloc, b" ", 65_537)?;
-    same(&rt, refusal_of(alloc, &blank), Some((1, 65_536, 65_537)));
-    Ok(())
-}
-
-// The file of an atom with this expression.
-fn with_expression(alloc: Global, expression: &[u8]) -> Result<Vec<u8>, AllocError> {
-    let mut text = Vec::from_slice(alloc, b"stream(plain,col(a,int))main(atom(any,")?;
-    text.extend_from_slice(expression)?;
-    text.extend_from_slice(b"))")?;
-    Ok(text)
-}
-
-#[test]
-fn records_have_two_to_eight_parts_which_are_counted_from_1(rt: HostRuntime) -> Result<(), Fail> {
-    let alloc = rt.alloc();
-    for (expression, refusal) in [
-        (b"rec(a,1)".as_slice(), None),
-        (b"rec(1,2,3,4,5,6,7,a)", None),
-        (b"rec(a)", Some((5, 38, 44))),
-        (b"rec(1,2,3,4,5,6,7,8,a)", Some((5, 38, 60))),
-        (b"part(x,1)", None),
-        (b"part(x,8)", None),
-        (b"part(x,0)", Some((5, 45, 46))),
-        (b"part(x,9)", Some((5, 45, 46))),
-        (b"part(x,a)", Some((5, 45, 46))),
-        (b"part(1,1)", Some((5, 43, 44))),
-        (b"part(x)", Some((5, 38, 45))),
-    ] {
-        let text = with_expression(alloc, expression)?;
-        same(&rt, refusal_of(alloc, &text), refusal);
+    for &(before, count, piece, refusal) in TEXTS {
+        let text = filled(rt.alloc(), before, (count, piece), b"")?;
+        same_at(&rt, count, refusal_of(rt.alloc(), &text), refusal);
     }
     Ok(())
 }
 
-// The file of a collect with this key.
-fn with_key(alloc: Global, key: &[u8]) -> Result<Vec<u8>, AllocError> {
-    let mut text = Vec::from_slice(alloc, b"stream(plain,col(k,text))main(collect(")?;
-    text.extend_from_slice(key)?;
-    text.extend_from_slice(b",any,eps,eps(0)))")?;
+// Calls around a word.
+fn nested(alloc: Global, levels: u32) -> Result<Vec<u8>, AllocError> {
+    let mut text = Vec::new(alloc);
+    push_repeated(&mut text, b"a(", levels)?;
+    text.push(b'b')?;
+    push_repeated(&mut text, b")", levels)?;
     Ok(text)
 }
 
 #[test]
-fn keys_have_one_to_four_names(rt: HostRuntime) -> Result<(), Fail> {
-    let alloc = rt.alloc();
-    for (key, refusal) in [
-        (b"k".as_slice(), None),
-        (b"key", None),
-        (b"key(k,l)", None),
-        (b"key(k,l,m,n)", None),
-        (b"key(k)", Some((5, 38, 44))),
-        (b"key(k,l,m,n,o)", Some((5, 38, 52))),
-        (b"key(k,1)", Some((5, 44, 45))),
-        (b"key(k,key(l,m))", Some((5, 44, 52))),
-        (b"1", Some((5, 38, 39))),
-    ] {
-        let text = with_key(alloc, key)?;
-        same(&rt, refusal_of(alloc, &text), refusal);
-    }
+fn the_levels_of_a_text_may_be_as_many_as_its_bytes_allow(rt: HostRuntime) -> Result<(), Fail> {
+    let text = nested(rt.alloc(), 20_000)?;
+    same(&rt, refusal_of(rt.alloc(), &text), Some((4, 128, 59_937)));
     Ok(())
 }
 
@@ -106,71 +81,44 @@ fn canonical(alloc: Global, text: &[u8]) -> Result<Option<Bytes>, AllocError> {
     }
 }
 
-fn printed(alloc: Global, text: &[u8]) -> Result<Bytes, Fail> {
-    Ok(canonical(alloc, text)?.ok_or("the text is refused")?)
-}
-
 fn is_printed_as(rt: &impl Abort, alloc: Global, text: &[u8], wanted: &[u8]) -> Result<(), Fail> {
-    let printed = printed(alloc, text)?;
+    let printed = canonical(alloc, text)?.ok_or("the text is refused")?;
     same(rt, printed.as_slice(), wanted);
     Ok(())
 }
 
+const CANONICAL: &[(&[u8], &[u8])] = &[
+    (
+        b"stream( plain,col(a,int) ) # sums\nmain(iter(atom(any,a),+00,add(x,y)))",
+        b"stream(plain, col(a, int))\nmain(iter(atom(any, a), 0, add(x, y)))\n",
+    ),
+    (
+        b"stream(plain,col(a,text))main(atom(eq(a,\"\\x0a\\\"\\\\~\\x7f\xff\"),-05))",
+        b"stream(plain, col(a, text))\nmain(atom(eq(a, \"\\x0A\\x22\\x5C~\\x7F\\xFF\"), -5))\n",
+    ),
+    (
+        b"stream(plain,col(a,int))main(apply(atom(any,rec(a,+1)),part(x,02)))",
+        b"stream(plain, col(a, int))\nmain(apply(atom(any, rec(a, 1)), part(x, 2)))\n",
+    ),
+    (
+        b"stream(plain,col(k,text))main(collect(key(k,m ,n),any,eps,eps(0)))",
+        b"stream(plain, col(k, text))\nmain(collect(key(k, m, n), any, eps, eps(0)))\n",
+    ),
+];
+
 #[test]
 fn prints_the_canonical_text(rt: HostRuntime) -> Result<(), Fail> {
-    let cases = [
-        (
-            b"stream( plain,col(a,int) ) # sums\nmain(iter(atom(any,a),+00,add(x,y)))".as_slice(),
-            b"stream(plain, col(a, int))\nmain(iter(atom(any, a), 0, add(x, y)))\n".as_slice(),
-        ),
-        (
-            b"stream(plain,col(a,text))main(atom(eq(a,\"\\x0a\\\"\\\\~\\x7f\xff\"),-05))",
-            b"stream(plain, col(a, text))\nmain(atom(eq(a, \"\\x0A\\x22\\x5C~\\x7F\\xFF\"), -5))\n",
-        ),
-        (
-            b"stream(plain,col(a,int))main(apply(atom(any,rec(a,+1)),part(x,02)))",
-            b"stream(plain, col(a, int))\nmain(apply(atom(any, rec(a, 1)), part(x, 2)))\n",
-        ),
-        (
-            b"stream(plain,col(k,text))main(collect(key(k,m ,n),any,eps,eps(0)))",
-            b"stream(plain, col(k, text))\nmain(collect(key(k, m, n), any, eps, eps(0)))\n",
-        ),
-    ];
-    for (text, wanted) in cases {
+    for &(text, wanted) in CANONICAL {
         is_printed_as(&rt, rt.alloc(), text, wanted)?;
     }
     Ok(())
 }
 
-// A text of two parts with this many x between them.
-fn filled(alloc: Global, before: &[u8], count: u32, after: &[u8]) -> Result<Vec<u8>, AllocError> {
-    let filling = repeated(alloc, b"x", count)?;
-    let mut text = Vec::from_slice(alloc, before)?;
-    text.extend_from_slice(&filling)?;
-    text.extend_from_slice(after)?;
-    Ok(text)
-}
-
+// A text of 65,536 bytes that is its own canonical text.
 #[test]
-fn a_text_of_65_536_bytes_is_read_and_printed_and_read_again(rt: HostRuntime) -> Result<(), Fail> {
-    let alloc = rt.alloc();
+fn the_longest_text_is_read_and_printed(rt: HostRuntime) -> Result<(), Fail> {
     let before = b"stream(plain, col(a, text))\nmain(atom(eq(a, \"";
-    let text = filled(alloc, before, 65_483, b"\"), 1))\n")?;
+    let text = filled(rt.alloc(), before, (65_483, b"x"), b"\"), 1))\n")?;
     same(&rt, text.len(), 65_536);
-    let printed = printed(alloc, &text)?;
-    same(&rt, printed.as_slice(), text.as_slice());
-    is_printed_as(&rt, alloc, printed.as_slice(), &text)
-}
-
-#[test]
-fn a_comment_may_go_up_to_65_536_bytes(rt: HostRuntime) -> Result<(), Fail> {
-    let alloc = rt.alloc();
-    let before = b"stream(plain,col(a,int))main(atom(any,a))#";
-    let text = filled(alloc, before, 65_494, b"")?;
-    same(&rt, text.len(), 65_536);
-    let wanted = b"stream(plain, col(a, int))\nmain(atom(any, a))\n";
-    is_printed_as(&rt, alloc, &text, wanted)?;
-    let longer = filled(alloc, before, 65_494, b"x")?;
-    same(&rt, refusal_of(alloc, &longer), Some((1, 65_536, 65_537)));
-    Ok(())
+    is_printed_as(&rt, rt.alloc(), &text, &text)
 }

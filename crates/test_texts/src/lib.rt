@@ -1,5 +1,5 @@
-//! Calls of `query_tokens`, `query_trees`, `query_forms`, `query_parser`, `query_syntax` and
-//! `query_lets` with ample memory. They stand here because a crate with tests is proved twice.
+//! Calls of `query_forms`, `query_parser` and `query_syntax` with ample memory, where a run of a
+//! program shows less. They stand here because a crate with tests is proved twice.
 #![tactic(auto)]
 
 #[cfg(test)]
@@ -9,10 +9,4 @@ mod files;
 #[cfg(test)]
 mod forms;
 #[cfg(test)]
-mod lets;
-#[cfg(test)]
 mod syntax;
-#[cfg(test)]
-mod tokens;
-#[cfg(test)]
-mod trees;

@@ -2,9 +2,7 @@
 // `cases_queries` shows the constructor of each form.
 use crate::assertions::same;
 use language_base::Span;
-use query_syntax::{
-    Digits, Expression, Index, Kind, Let, Main, Mode, Program, Query, Stream, read_syntax,
-};
+use query_syntax::{Digits, Kind, Let, Main, Mode, Program, Query, Stream, read_syntax};
 use std::alloc::Global;
 use std::process::Abort;
 use std::test::Fail;
@@ -57,47 +55,5 @@ fn a_file_has_its_parts_at_their_places(rt: HostRuntime) -> Result<(), Fail> {
         is_named_f(&rt, written);
     }
     is_a_name(&rt, &program.main);
-    Ok(())
-}
-
-fn is_record_of_two(rt: &impl Abort, value: &Expression) {
-    same(rt, value.span(), Span { from: 48, to: 57 });
-    let Expression::Record { parts, .. } = value else {
-        panic!(rt; "no record");
-    };
-    same(rt, parts.as_slice().len(), 2);
-}
-
-fn is_second_part(rt: &impl Abort, value: &Expression) {
-    same(rt, value.span(), Span { from: 60, to: 70 });
-    let Expression::Part { whole, index, .. } = value else {
-        panic!(rt; "no part");
-    };
-    same(rt, whole.bytes.as_slice(), b"x".as_slice());
-    let second = Index {
-        value: 2,
-        span: Span { from: 68, to: 69 },
-    };
-    same(rt, *index, second);
-}
-
-fn takes_a_part(rt: &impl Abort, query: &Query) {
-    let Query::Apply { operand, value, .. } = query else {
-        panic!(rt; "no application");
-    };
-    is_second_part(rt, value);
-    let Query::Atom { value, .. } = &**operand else {
-        panic!(rt; "no atom");
-    };
-    is_record_of_two(rt, value);
-}
-
-#[test]
-fn a_record_and_its_part_stand_where_they_are_written(rt: HostRuntime) -> Result<(), Fail> {
-    let program = program(
-        rt.alloc(),
-        b"stream(plain, col(a, int)) main(apply(atom(any, rec(a, 1)), part(x, 2)))",
-    )?;
-    takes_a_part(&rt, &program.main.query);
     Ok(())
 }

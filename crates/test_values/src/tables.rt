@@ -1,5 +1,6 @@
-// Scalars under keys.
+// Scalars under keys. There are more of them than the table has room for at first.
 use crate::assertions::same;
+use expressions::typed_expressions_have_values;
 use std::alloc::{AllocError, Global};
 use std::process::Abort;
 use std::test::Fail;
@@ -23,7 +24,7 @@ const ENTRIES: &[(&[u8], Scalar)] = &[
 ];
 
 fn entries(alloc: Global) -> Result<Box<Table>, AllocError> {
-    let mut table = boxed(alloc, Table::new(alloc))?;
+    let mut table = boxed(alloc, Table::with_capacity(alloc, 1)?)?;
     for (key, value) in ENTRIES {
         push_new(&mut table, key, *value)?;
     }
@@ -47,37 +48,6 @@ fn entries_are_found_by_place_and_by_key(rt: HostRuntime) -> Result<(), Fail> {
         has_entry_at(&rt, &copy, place, key, *value);
     }
     same(&rt, copy.get(b"south"), None);
-    Ok(())
-}
-
-#[test]
-fn a_new_table_is_empty(rt: HostRuntime) -> Result<(), Fail> {
-    let table = boxed(rt.alloc(), Table::new(rt.alloc()))?;
-    same(&rt, table.is_empty(), true);
-    let table = boxed(rt.alloc(), Table::with_capacity(rt.alloc(), 1)?)?;
-    same(&rt, table.is_empty(), true);
-    Ok(())
-}
-
-#[test]
-fn a_table_has_a_thousand_keys(rt: HostRuntime) -> Result<(), Fail> {
-    let mut table = boxed(rt.alloc(), Table::new(rt.alloc()))?;
-    for number in 0..1_000u16 {
-        let value = Scalar::Number(i64::from(number));
-        push_new(&mut table, &number.to_be_bytes(), value)?;
-    }
-    same(&rt, table.len(), 1_000);
-    same(&rt, table.get(&[3, 231]), Some(Scalar::Number(999)));
-    Ok(())
-}
-
-#[test]
-fn a_table_takes_more_keys_than_it_has_room_for(rt: HostRuntime) -> Result<(), Fail> {
-    let mut table = boxed(rt.alloc(), Table::with_capacity(rt.alloc(), 1)?)?;
-    push_new(&mut table, b"north-east", Scalar::DivZero)?;
-    push_new(&mut table, b"south", Scalar::DivZero)?;
-    same(&rt, table.len(), 2);
-    has_entry_at(&rt, &table, 0, b"north-east", Scalar::DivZero);
-    has_entry_at(&rt, &table, 1, b"south", Scalar::DivZero);
+    typed_expressions_have_values();
     Ok(())
 }

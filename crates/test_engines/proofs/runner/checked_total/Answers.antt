@@ -1,7 +1,0 @@
-use Rattle.test_engines.proofs.TestedComposes.{totals_checked}
-use Rattle.test_engines.proofs.runner.checked_total.Goals as goal
-
-pub new-requires : goal.new-requires
-new-requires c =
-    totals_checked (record { layout = c.in_ok-columns.columns; main = c.in_ok-main.main.value })
-    c.in_ok-columns.ensures c.in_ok-main.ensures
