@@ -163,7 +163,8 @@ test_statuses() {
         same "the program ended by $sign" "$sign" "$(kill -l $?)"
     done
     rm -f -- "$room/one"
-    (PATH=$tools exec "$fresh/sqre" wait) >"$room/one" &
+    mkdir "$room/of the caller"
+    (PATH=$tools work="$room/of the caller" unfinished="$room/items" exec "$fresh/sqre" wait) >"$room/one" &
     one=$!
     wait_for "$room/one"
     kill -s TERM "$one"
@@ -171,6 +172,8 @@ test_statuses() {
     same 'TERM ends the script' 143 $?
     same 'TERM ends the program' 'begun
 ended' "$(cat "$room/one")"
+    holds 'it removes no folder that the caller calls so' [ -d "$room/of the caller" ]
+    holds 'it removes no file that the caller calls so' [ -e "$room/items" ]
     same 'no words' 'status 2' "$(answer without_rt "$fresh/sqre")"
     has 'no words: usage' 'Usage: sqre' "$(cat "$room/errors")"
     has 'help' 'Usage: sqre' "$(without_rt "$fresh/sqre" --help)"
