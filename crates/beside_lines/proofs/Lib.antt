@@ -1,0 +1,11 @@
+pub mod Besides
+pub mod Filled
+pub mod HighBytes
+pub mod InTurn
+pub mod LastItems
+pub mod LineEnds
+pub mod Outputs
+pub mod Popped
+pub mod Quiets
+pub mod Rows
+pub mod Tabs

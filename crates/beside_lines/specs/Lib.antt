@@ -1,0 +1,4 @@
+pub mod AfterTabs
+pub mod Besides
+pub mod Filling
+pub mod LastAnswer
