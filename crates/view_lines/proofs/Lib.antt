@@ -1,0 +1,4 @@
+mod Ends
+mod Replying
+mod Rows
+mod Viewing

@@ -1,0 +1,10 @@
+pub mod CellRows
+pub mod Columns
+pub mod JsonRows
+pub mod RowTexts
+pub mod Replies
+pub mod Rows
+pub mod Sheets
+pub mod Standing
+pub mod ViewLaws
+pub mod Views

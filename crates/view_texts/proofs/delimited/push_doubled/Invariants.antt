@@ -1,0 +1,9 @@
+use Rattle.std.proofs.Common.{◌≡◌, ◌++◌, take}
+use Rattle.std.specs.List.{flat_map}
+use Rattle.view_texts.specs.Cells.{doubled}
+use Rattle.view_texts.proofs.delimited.push_doubled.Given as goal
+
+-- the bytes so far
+abbrev pub invariant-bytes : goal.invariant-bytes
+invariant-bytes l =
+    l.text.items ≡ l.initial.text.items ++ flat_map doubled (take l.byte-index l.cell)
