@@ -1,0 +1,3 @@
+mod FewDigits
+mod KeptDigits
+mod RecordScales

@@ -1,0 +1,4 @@
+pub mod ExpressionScales
+pub mod QueryScales
+pub mod Scales
+pub mod Units
