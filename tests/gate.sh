@@ -84,12 +84,12 @@ gate 'a test fails' '3 passed, 0 failed' 0 0 '4 passed, 1 failed' 1 '10 passed, 
 status 1'
 printf '#!/bin/sh\necho "$@" >>"%s"\n' "$room/packages" >"$room/kit/apt-get"
 chmod +x "$room/kit/apt-get"
-printf '%s\n' sh no_such_command >"$top/.ci/packages"
+printf '%s\n' sh 'shell sh' 'of_another_name no_such_name' no_such_command >"$top/.ci/packages"
 gate 'a package is absent' '3 passed, 0 failed' 0 0 '5 passed, 0 failed' 0 '11 passed, 0 failed
 status 0'
 wanted=
-[ "$(id -u)" -ne 0 ] || wanted=no_such_command
-same 'what is installed' "$wanted" "$(sed -n 's/.* install .* //p' "$room/packages" 2>/dev/null)"
+[ "$(id -u)" -ne 0 ] || wanted='of_another_name no_such_command'
+same 'what is installed' "$wanted" "$(sed -n 's/.* --no-install-recommends //p' "$room/packages" 2>/dev/null)"
 sed 's/Lines.antt/Other.antt/' "$top/docs/PROOF.md" >"$room/page"
 cp "$room/page" "$top/docs/PROOF.md"
 has 'a link too few' 'low/specs/Lines.antt is not linked' "$(order)"

@@ -11,7 +11,7 @@ test_release() {
     (with_rt "$top/.ci/build" && with_rt "$top/.ci/release") 2>/dev/null
     holds 'the release is what was built' with_rt "$top/.ci/release" --check >/dev/null 2>&1
     make_program release >"$room/kit/sqre"
-    for name in explain expand shard snapshot; do
+    for name in explain expand shard snapshot beside view; do
         make_explanation release >"$room/kit/$name"
     done
     fresh="$room/a folder/clone"
@@ -57,7 +57,7 @@ status 0' "$(answer with_rt "$fresh/sqre" which)"
 status 0' "$(answer without_rt "$fresh/sqre" which)"
     forget
     same 'it is proved all the same' 'status 0' "$(answer with_rt "$fresh/sqre" --prove)"
-    same 'it is proved all the same: what rt was asked' 'ci low sqre aside explain expand shard snapshot;' "$(asked)"
+    same 'it is proved all the same: what rt was asked' 'ci low sqre aside explain expand shard snapshot beside view;' "$(asked)"
     if [ "$(awk '/^MemAvailable:/ { print int($2 / 4000000) }' /proc/meminfo)" -ge "$(nproc)" ]; then
         same 'crates are proved side by side' "$(nproc)" "$(sed -n 's/^beside //p' "$RT_LOG")"
     else
@@ -179,19 +179,26 @@ ended' "$(cat "$room/one")"
     has 'help' 'Usage: sqre' "$(without_rt "$fresh/sqre" --help)"
 }
 
+# What is told of the files that are installed in the folder $1.
+told_of_install() {
+    for name in sqre explain expand shard snapshot beside view; do
+        echo "installed $1/sqre-programs/$name"
+    done
+    echo "installed $1/sqre-explain"
+    for name in explanations snapshots templates views; do
+        echo "installed $1/sqre-programs/$name"
+    done
+    echo "installed $1/sqre"
+}
+
 test_install() {
     folder="$room/to install"
     mkdir -p "$folder"
     ln -s "$fresh/sqre" "$folder/sqre"
     cp "$fresh/sqre" "$room/kept"
-    same 'install' "installed $folder/sqre-program
-installed $folder/sqre-explain
-installed $folder/sqre-expand
-installed $folder/sqre-shard
-installed $folder/sqre-snapshot
-installed $folder/sqre-templates
-installed $folder/sqre
+    same 'install' "$(told_of_install "$folder")
 status 0" "$(answer without_rt "$fresh/sqre" --install "$folder")"
+    same 'what stands there' 'sqre sqre-explain sqre-programs' "$(cd "$folder" && echo ./* | sed 's|\./||g')"
     holds 'install over a link leaves the script' cmp -s "$room/kept" "$fresh/sqre"
     same 'install to the checkout' 'status 10' "$(cd "$fresh" && answer without_rt ./sqre --install .)"
     holds 'install to the checkout leaves the script' cmp -s "$room/kept" "$fresh/sqre"
@@ -208,24 +215,24 @@ test_installed() {
     same 'what is installed: a refusal' 'refused
 status 1' "$(answer without_rt "$folder/sqre" check "$room/bad.sqre")"
     same 'what is installed: its explanation' "$room/bad.sqre is explained, release" "$(cat "$room/errors")"
+    same 'what is installed: a query that is not there' 'status 3' "$(answer without_rt "$folder/sqre" exit 3)"
+    has 'what is installed: its sentence' 'the query 3, which is not there, could not be read' "$(cat "$room/errors")"
+    same 'what is installed: words that are not known' 'status 2' "$(answer without_rt "$folder/sqre" save)"
+    has 'what is installed: their sentence' 'none of those that --help shows' "$(cat "$room/errors")"
     same 'what is installed: version' "$version" "$(without_rt "$folder/sqre" --version)"
     same 'what is installed by a link' 'release' "$(ln -s "$folder/sqre" "$room/linked" && without_rt "$room/linked" which)"
-    same 'installed again' "installed $room/anew/sqre-program
-installed $room/anew/sqre-explain
-installed $room/anew/sqre-expand
-installed $room/anew/sqre-shard
-installed $room/anew/sqre-snapshot
-installed $room/anew/sqre-templates
-installed $room/anew/sqre
+    same 'installed again' "$(told_of_install "$room/anew")
 status 0" "$(answer without_rt "$folder/sqre" --install "$room/anew")"
-    holds 'what is installed again is the same' cmp -s "$folder/sqre" "$room/anew/sqre"
+    for name in sqre sqre-programs/explanations sqre-programs/snapshots sqre-programs/templates sqre-programs/views; do
+        holds "what is installed again is the same: $name" cmp -s "$folder/$name" "$room/anew/$name"
+    done
     same 'what is installed proves nothing' 'status 10' "$(answer without_rt "$folder/sqre" --prove)"
     has 'where programs are proved' 'in a checkout' "$(cat "$room/errors")"
-    rm "$folder/sqre-explain"
+    rm "$folder/sqre-programs/explain"
     same 'what is installed without the explanation' 'refused
 status 1' "$(answer without_rt "$folder/sqre" check "$room/bad.sqre")"
     has 'the explanation is not there' 'is not there' "$(cat "$room/errors")"
-    rm "$folder/sqre-program"
+    rm "$folder/sqre-programs/sqre"
     same 'what is installed without the program' 'status 10' "$(answer without_rt "$folder/sqre" which)"
     mv "$fresh.away" "$fresh"
 }

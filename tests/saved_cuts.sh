@@ -15,7 +15,7 @@ trap 'exit 1' HUP INT TERM
 cd "$room" || exit 1
 
 # How many lines of the items are taken.
-lines=6
+lines=8
 
 # The snapshot in what advance wrote, after the line with its length.
 snapshot_in() {
@@ -57,12 +57,8 @@ goes_on_at_each() {
 # shellcheck disable=SC2154  # .ci/shared has $program
 find_program sqre && run=$program && find_program snapshot && save=$program || exit 1
 count=0
-# All examples, and every fourth of the queries that are rewritten.
-set -- "$here"/examples/*/query.sqre
-for query in "$here"/crates/cases_rewritten/data/*/query.sqre; do
-    seen=$((${seen-0} + 1))
-    [ $((seen % 4)) -ne 0 ] || set -- "$@" "$query"
-done
+# All examples, and all queries that are rewritten.
+set -- "$here"/examples/*/query.sqre "$here"/crates/cases_rewritten/data/*/query.sqre
 for query in "$@"; do
     folder=${query%/*}
     items=$folder/items.csv
@@ -71,5 +67,5 @@ for query in "$@"; do
     count=$((count + 1))
     holds "${folder##*/} goes on" goes_on_at_each "$query" "$items"
 done
-holds 'there are at least sixty queries' [ "$count" -ge 60 ]
+holds 'there are at least a hundred queries' [ "$count" -ge 100 ]
 tell

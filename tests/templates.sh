@@ -129,7 +129,7 @@ same 'the plain file in docs/LANGUAGE.md' "$(cat shown2)
 status 0" "$(told expand shown1)"
 percent=$here/templates/examples/percent
 same 'percent in docs/LANGUAGE.md' "$(cat "$percent/query.sqre")" "$(sed 's|"templates/|"../../|' shown3)"
-same 'its answers in docs/LANGUAGE.md' "$(paste -d ' ' "$percent/items.csv" "$percent/answers")" "$(tr -s ' ' <shown4)"
+same 'its answers in docs/LANGUAGE.md' "$(paste "$percent/items.csv" "$percent/answers")" "$(cat shown4)"
 type_in_body=$here/templates/refusals/type_in_body
 same 'the refusal in docs/LANGUAGE.md' "$(sed -n '1s/^.* (the column in bytes): //p' "$type_in_body/explanation"
     cat "$type_in_body/explanation")" "$(cat shown5)"
