@@ -1,0 +1,3 @@
+pub mod InCells
+pub mod Reading
+pub mod Values

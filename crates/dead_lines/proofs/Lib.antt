@@ -1,0 +1,4 @@
+pub mod Judging
+pub mod LinesOn
+pub mod Reporting
+pub mod Watched

@@ -1,0 +1,4 @@
+pub mod Known
+pub mod Letters
+pub mod Outlooks
+pub mod Searched
