@@ -1,0 +1,10 @@
+pub mod Call
+pub mod Commands
+pub mod EarlySections
+pub mod EndingSections
+pub mod Hints
+pub mod KeylessSections
+pub mod MarkedPlaces
+pub mod Past
+pub mod Sections
+pub mod ShownLines
