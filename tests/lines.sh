@@ -16,6 +16,6 @@ while IFS=: read -r words wanted; do
     # shellcheck disable=SC2086  # these are words
     set -- ${rest#"$name"}
     same "$words" "${wanted# }
-status 0" "$("$here/sqre" "$command" "$name/query.sqre" "$@" 2>&1; echo "status $?")"
+status 0" "$("$here/sqre" --quiet "$command" "$name/query.sqre" "$@" 2>&1; echo "status $?")"
 done <"$here/tests/lines.txt"
 tell

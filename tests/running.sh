@@ -11,7 +11,7 @@ test_release() {
     (with_rt "$top/.ci/build" && with_rt "$top/.ci/release") 2>/dev/null
     holds 'the release is what was built' with_rt "$top/.ci/release" --check >/dev/null 2>&1
     make_program release >"$room/kit/sqre"
-    for name in explain expand shard snapshot beside view; do
+    for name in explain expand shard snapshot beside view hints; do
         make_explanation release >"$room/kit/$name"
     done
     fresh="$room/a folder/clone"
@@ -57,7 +57,7 @@ status 0' "$(answer with_rt "$fresh/sqre" which)"
 status 0' "$(answer without_rt "$fresh/sqre" which)"
     forget
     same 'it is proved all the same' 'status 0' "$(answer with_rt "$fresh/sqre" --prove)"
-    same 'it is proved all the same: what rt was asked' 'ci low sqre aside explain expand shard snapshot beside view;' "$(asked)"
+    same 'it is proved all the same: what rt was asked' 'ci low sqre aside explain expand shard snapshot beside view hints;' "$(asked)"
     if [ "$(awk '/^MemAvailable:/ { print int($2 / 4000000) }' /proc/meminfo)" -ge "$(nproc)" ]; then
         same 'crates are proved side by side' "$(nproc)" "$(sed -n 's/^beside //p' "$RT_LOG")"
     else
@@ -181,11 +181,11 @@ ended' "$(cat "$room/one")"
 
 # What is told of the files that are installed in the folder $1.
 told_of_install() {
-    for name in sqre explain expand shard snapshot beside view; do
+    for name in sqre explain expand shard snapshot beside view hints; do
         echo "installed $1/sqre-programs/$name"
     done
     echo "installed $1/sqre-explain"
-    for name in explanations snapshots templates views; do
+    for name in explanations remarks snapshots templates views; do
         echo "installed $1/sqre-programs/$name"
     done
     echo "installed $1/sqre"
@@ -223,7 +223,7 @@ status 1' "$(answer without_rt "$folder/sqre" check "$room/bad.sqre")"
     same 'what is installed by a link' 'release' "$(ln -s "$folder/sqre" "$room/linked" && without_rt "$room/linked" which)"
     same 'installed again' "$(told_of_install "$room/anew")
 status 0" "$(answer without_rt "$folder/sqre" --install "$room/anew")"
-    for name in sqre sqre-programs/explanations sqre-programs/snapshots sqre-programs/templates sqre-programs/views; do
+    for name in sqre sqre-programs/explanations sqre-programs/remarks sqre-programs/snapshots sqre-programs/templates sqre-programs/views; do
         holds "what is installed again is the same: $name" cmp -s "$folder/$name" "$room/anew/$name"
     done
     same 'what is installed proves nothing' 'status 10' "$(answer without_rt "$folder/sqre" --prove)"

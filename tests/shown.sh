@@ -77,7 +77,7 @@ shows_commands() {
     cut_page "$1"
     number=1
     while [ -e "shown$number" ]; do
-        if grep -q '^\./sqre \(beside\|last\|view\) ' "shown$number"; then
+        if grep -q '^\./sqre \(beside\|check\|dead\|last\|view\) ' "shown$number"; then
             same "docs/$1: $(cat "shown$number")" "$(sh "shown$number" 2>&1 </dev/null)" "$(cat "shown$((number + 1))")"
         fi
         number=$((number + 1))

@@ -155,7 +155,7 @@ status 0' "$(told check query)"
     printf '%s\n' 'stream(plain, col(a, int))' 'main(atom(any, a))' >whole
     same 'check of whole numbers' 'ok
 status 0' "$(told check whole)"
-    same 'check of whole numbers says no more' '' "$(cat errors)"
+    same 'check of whole numbers says nothing of digits' '' "$(grep 'view shows' errors)"
     printf '%s\n' 'stream(plain, col(a, fixed(1)), col(b, fixed(2)))' 'main(atom(any, add(a, b)))' >mixed
     told check mixed >/dev/null
     has 'check of mixed units: how they are shown' 'as whole numbers' "$(cat errors)"
